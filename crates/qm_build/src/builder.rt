@@ -1,7 +1,8 @@
-ghost use Rattle.std.specs.Prelude.{List, [], IfOk};
+ghost use Rattle.std.specs.Prelude.{◌<◌, ◌^◌, List, [], IfOk};
 ghost use Rattle.qm_space.specs.Book.{AreBookPlanes};
 ghost use Rattle.qm_solids.specs.Solid.{Solid};
 ghost use Rattle.qm_solids.specs.InBook.{solids_in, IsBookOf};
+ghost use Rattle.qm_partition.specs.Counting.{node_count};
 ghost use Rattle.qm_partition.specs.Ways.{HasPoints};
 ghost use Rattle.qm_solid_tree.specs.Division.{Divides};
 ghost use Rattle.qm_solid_tree.specs.GivesContents.{GivesContents};
@@ -19,6 +20,9 @@ use qm_tree::Tree;
 use std::alloc::{AllocError, Global};
 use std::thread::Threads;
 
+/// The most nodes that a tree has.
+const MOST_NODES: u64 = 9_223_372_036_854_775_807;
+
 /// The tree that the brushes of a list define with the book that was filled with their planes. Its planes are the whole
 /// book, also those that no node names.
 pub fn build(alloc: Global, list: &BrushList, book: &PlaneBook) -> Result<Tree, AllocError>
@@ -26,6 +30,7 @@ pub fn build(alloc: Global, list: &BrushList, book: &PlaneBook) -> Result<Tree, 
     ensures tree { IfOk result (λ tree. IsTreeOf (solids_in book.now list.now) book.now tree) }
     ensures points { IfOk result HasPoints }
     ensures contents { IfOk result (λ tree. GivesContents tree (solids_in book.now list.now)) }
+    ensures few { IfOk result (λ tree. node_count tree.shape < 2 ^ 63) }
 {
     let fragments = Fragments::of(alloc, list, book)?;
     let walk = walk_of_cell(alloc, fragments, book)?;
@@ -44,6 +49,7 @@ pub fn build_halves<R: Threads + Sync, B: HalvesGate + Sync>(
     ensures tree { IfOk result (λ tree. IsTreeOf (solids_in book.now list.now) book.now tree) }
     ensures points { IfOk result HasPoints }
     ensures contents { IfOk result (λ tree. GivesContents tree (solids_in book.now list.now)) }
+    ensures few { IfOk result (λ tree. node_count tree.shape < 2 ^ 63) }
 {
     let fragments = Fragments::of_halves(rt, alloc, list, book)?;
     let walk = walk_in_halves(rt, alloc, book, gate, 0, fragments)?;
@@ -54,9 +60,14 @@ pub fn build_halves<R: Threads + Sync, B: HalvesGate + Sync>(
 fn tree_of_walk(alloc: Global, book: &PlaneBook, walk: Vec<Visit>) -> Result<Tree, AllocError>
     requires planes { AreBookPlanes book.now }
     requires walk { (solids : List Solid) × IsWalk (Divides solids book.now []) walk.items }
-    ensures { IfOk result (λ tree. (solids : List Solid) → IsWalk (Divides solids book.now []) walk.items → IsTreeOf solids book.now tree) }
+    ensures tree { IfOk result (λ tree. (solids : List Solid) → IsWalk (Divides solids book.now []) walk.items → IsTreeOf solids book.now tree) }
+    ensures few { IfOk result (λ tree. node_count tree.shape < 2 ^ 63) }
 {
     let planes = Vec::from_slice(alloc, book.planes())?;
     let tree = Tree::joined_of(alloc, planes, walk)?;
+    // No memory has more: a child is a number with a sign in a tree file.
+    if tree.nodes() > MOST_NODES {
+        return Err(AllocError);
+    }
     Ok(tree)
 }

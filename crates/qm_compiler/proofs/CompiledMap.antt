@@ -1,5 +1,5 @@
 -- What is built of the brushes of a map, with what is made of its tree, is what the map compiles to.
-use Rattle.std.proofs.Common.{◌≡◌, ℕ, Bool, true, false, List, [], replicate, length, refl, sym, ◌∙◌, subst, arith, ◌↔◌}
+use Rattle.std.proofs.Common.{◌≡◌, ◌<◌, ◌^◌, ℕ, Bool, true, false, List, [], replicate, length, refl, sym, ap, ◌∙◌, subst, arith, ◌↔◌}
 use Rattle.std.specs.Prelude.{None, Some}
 use Rattle.std.specs.List.{All, AllZip}
 use Rattle.std.proofs.lemmas.List.{length-map}
@@ -17,13 +17,15 @@ use Rattle.qm_solids.proofs.FlatCounts.{same_flat, counted_flat}
 use Rattle.qm_partition.specs.LeafOfPoint.{leaf_record_at}
 use Rattle.qm_partition.specs.Tree.{Tree}
 use Rattle.qm_partition.specs.Ways.{HasPoints}
+use Rattle.qm_partition.proofs.Counts.{length-nodes_of}
+use Rattle.qm_partition.proofs.MarkedLeaves.{marked_nodes}
 use Rattle.qm_partition.proofs.MarkedParts.{marked_well_made}
 use Rattle.qm_solid_tree.specs.GivesContents.{GivesContents}
 use Rattle.qm_solid_tree.specs.TreeOf.{IsTreeOf}
 use Rattle.qm_solid_tree.proofs.OneDivision.{one_tree}
 use Rattle.qm_solid_tree.proofs.SameTree.{tree_back}
-use Rattle.qm_partition.specs.Counting.{leaves_of, leaf_count}
-use Rattle.qm_partition.specs.Marked.{marked_tree, IsFilledLeaf}
+use Rattle.qm_partition.specs.Counting.{leaves_of, leaf_count, node_count}
+use Rattle.qm_partition.specs.Marked.{marked, marked_tree, IsFilledLeaf}
 use Rattle.qm_partition.proofs.FilledLeaves.{filled_in_row, row_is_filled}
 use Rattle.qm_lists.proofs.WorkLists.{place_within}
 use Rattle.qm_solid_tree.proofs.FilledTrees.{tree_unfilled, marked_gives}
@@ -73,6 +75,11 @@ use Rattle.qm_compiler.proofs.NewFiles.{new_form}
 use Rattle.qm_compiler.proofs.Origins.{one_origins}
 use Rattle.qm_compiler.proofs.WrittenRows.{valid_without_rows, valid_with_rows, leaf_rows_over}
 
+-- a tree with marked leaves has the nodes that it had
+few_marked : (row : List Bool) (tree : Tree) → node_count tree.shape < 2 ^ 63 → node_count (marked_tree row tree).shape < 2 ^ 63
+few_marked row tree few =
+    omega (arith, few, length-nodes_of tree.shape 0 0, length-nodes_of (marked row tree.shape 0) 0 0, ap length (marked_nodes row tree.shape 0 0 0))
+
 -- a map has one tree
 pub one_tree_of_map : (map : MapFile) (tree other : Tree) → IsTreeOfMap map tree → IsTreeOfMap map other → other ≡ tree
 one_tree_of_map map tree other is its =
@@ -92,13 +99,14 @@ module _ (map : MapFile) (book : List Plane) (list : List BookSolid) (alike : Al
   as_many = length_all_zip IsAlike (drawn_solids map) (solids_in book list) alike ∙ length-map list (solid_in book)
 
   -- the tree that is built of the brushes is the map's, and the brushes are counted
-  pub counted_map : (tree : Tree) → AreEnteredInBook [] (drawn_planes map) book → IsTreeOf (solids_in book list) book tree → GivesContents tree (solids_in book list) → HasPoints tree → IsTreeOfBrushes map tree (length list) (flat_count list)
-  counted_map tree entered is_tree gives points = record {
+  pub counted_map : (tree : Tree) → AreEnteredInBook [] (drawn_planes map) book → IsTreeOf (solids_in book list) book tree → GivesContents tree (solids_in book list) → HasPoints tree → node_count tree.shape < 2 ^ 63 → IsTreeOfBrushes map tree (length list) (flat_count list)
+  counted_map tree entered is_tree gives points few = record {
     is_tree = record { book = book; entered = entered; is_tree = tree_back (drawn_solids map) (solids_in book list) alike book tree is_tree };
     gives_contents = gives_drawn tree gives;
     have_points = points;
     well_made = tree_well_made (solids_in book list) book filled.planes tree is_tree;
     reduced = tree_reduced (solids_in book list) book filled.planes tree is_tree;
+    few = few;
     as_many = sym as_many;
     has_flat = same_flat (drawn_solids map) (solids_in book list) (flat_count list) alike (counted_flat book list filled.each);
   }
@@ -127,7 +135,7 @@ module _ (map : MapFile) (tree : Tree) (brushes flat : ℕ) (counted : IsTreeOfB
         has_no_rows = refl;
         has_no_sections = refl;
         has_form = form;
-        is_valid = valid_without_rows file form counted.well_made counted.reduced tt refl;
+        is_valid = valid_without_rows file form counted.well_made counted.few counted.reduced tt refl;
       }
 
   -- none does, and these leaves are to be filled
@@ -202,7 +210,7 @@ module _ (map : MapFile) (tree : Tree) (brushes flat : ℕ) (counted : IsTreeOfB
       -- it can stand in a file
       valid : (options : Options) (asked : Asked) → AreAsAsked map options marked_world asked → IsValidFile (written asked)
       valid options asked are =
-          valid_with_rows (written asked) (form asked) (marked_well_made row tree counted.well_made) counted.reduced are.can_stand
+          valid_with_rows (written asked) (form asked) (marked_well_made row tree counted.well_made) (few_marked row tree counted.few) counted.reduced are.can_stand
           marked_world asked.rows refl refl (leaf_rows_over options.fast options.threads marked_world asked.rows are.are_rows)
 
       done_map :

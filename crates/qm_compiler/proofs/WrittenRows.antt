@@ -1,9 +1,9 @@
 -- Trees and rows of leaves can stand in a tree file of the form in which maps are compiled.
-use Rattle.std.proofs.Common.{◌≡◌, ◌<◌, ℕ, Bool, true, false, List, [], Option, Some, None, length, get_or, refl, sym, subst, ◌∙◌, All, arith, inl, inr}
+use Rattle.std.proofs.Common.{◌≡◌, ◌<◌, ◌^◌, ℕ, Bool, true, false, List, [], Option, Some, None, length, get_or, refl, sym, subst, ◌∙◌, All, arith, inl, inr}
 use Rattle.std.specs.Prelude.{count_by, IfSome}
 use Rattle.std.proofs.lemmas.Option.{slice_get-get_or}
 use Rattle.qm_space.specs.Reduced.{IsReduced}
-use Rattle.qm_partition.specs.Counting.{leaves_of}
+use Rattle.qm_partition.specs.Counting.{leaves_of, node_count}
 use Rattle.qm_partition.specs.Tree.{Tree}
 use Rattle.qm_partition.specs.WellMade.{IsWellMade}
 use Rattle.qm_contacts.specs.NumberedLeaves.{is_numbered, numbered_leaves}
@@ -34,7 +34,7 @@ pub leaf_rows_over : (fast : Bool) (workers : ℕ) (world : World) (rows : List 
 leaf_rows_over true workers world rows made = record { portal_rows = made.portal_rows; are = made.are_leaf_rows }
 leaf_rows_over false workers world rows made = record { portal_rows = made.portal_rows; are = made.are_leaf_rows }
 
-module _ (file : TreeFile) (form : HasCompiledForm file) (well : IsWellMade file.tree) (reduced : All IsReduced file.tree.planes) (are_sections : AreSections file.sections) where
+module _ (file : TreeFile) (form : HasCompiledForm file) (well : IsWellMade file.tree) (few : node_count file.tree.shape < 2 ^ 63) (reduced : All IsReduced file.tree.planes) (are_sections : AreSections file.sections) where
   of_version : IsOfVersion file
   of_version = inr (record { version = form.version; bound = inr form.bound })
 
@@ -42,7 +42,7 @@ module _ (file : TreeFile) (form : HasCompiledForm file) (well : IsWellMade file
   fits rows = IfSome rows (AreRows (count_by is_numbered (leaves_of file.tree.shape)))
 
   pub valid_without_rows : file.rows ≡ None → IsValidFile file
-  valid_without_rows none = record { of_version = of_version; well_made = well; reduced = reduced; rows = subst fits (sym none) tt; sections = are_sections }
+  valid_without_rows none = record { of_version = of_version; well_made = well; few_nodes = few; reduced = reduced; rows = subst fits (sym none) tt; sections = are_sections }
 
   pub valid_with_rows : (world : World) (rows : List (List Bool)) → world.tree ≡ file.tree → file.rows ≡ Some rows → AreOverSome world rows → IsValidFile file
   valid_with_rows world rows same has over =
@@ -50,6 +50,7 @@ module _ (file : TreeFile) (form : HasCompiledForm file) (well : IsWellMade file
       record {
         of_version = of_version;
         well_made = well;
+        few_nodes = few;
         reduced = reduced;
         rows = subst fits (sym has) (leaf_rows_fit file.tree world.portals over.portal_rows rows are);
         sections = are_sections;

@@ -1,8 +1,9 @@
 //! What a map gives before the outside is looked for.
 
-ghost use Rattle.std.specs.Prelude.{◌≡◌, Some, None, IfOk, IfSome, is_some, if◌then◌else◌};
+ghost use Rattle.std.specs.Prelude.{◌≡◌, ◌<◌, ◌^◌, Some, None, IfOk, IfSome, is_some, if◌then◌else◌};
 ghost use Rattle.qm_grammar.specs.Valid.{IsValidMap};
 ghost use Rattle.qm_solids.specs.InBook.{solids_in, IsBookOf};
+ghost use Rattle.qm_partition.specs.Counting.{node_count};
 ghost use Rattle.qm_partition.specs.Ways.{HasPoints};
 ghost use Rattle.qm_solid_tree.specs.GivesContents.{GivesContents};
 ghost use Rattle.qm_solid_tree.specs.TreeOf.{IsTreeOf};
@@ -77,6 +78,7 @@ fn tree_of_brushes<R: Threads + Sync>(
     ensures tree { IfOk result (λ tree. IsTreeOf (solids_in book.now list.now) book.now tree) }
     ensures points { IfOk result HasPoints }
     ensures contents { IfOk result (λ tree. GivesContents tree (solids_in book.now list.now)) }
+    ensures few { IfOk result (λ tree. node_count tree.shape < 2 ^ 63) }
 {
     if threads > 1 {
         build_halves(rt, alloc, list, book, &OpenHalves)

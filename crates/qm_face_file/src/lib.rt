@@ -7,12 +7,14 @@ mod face_reading;
 mod faces_fault;
 mod field_bytes;
 mod field_reading;
+mod laws;
 mod named_planes;
 mod numbering;
 mod reading;
 mod writing;
 
 pub use faces_fault::FacesFault;
+pub use laws::first_faces_fault;
 pub use named_planes::named_plane;
 pub use numbering::plane_number;
 pub use qm_face_layout::FaceRecord;

@@ -1,5 +1,6 @@
 pub mod ExactFaces
 pub mod ValidFaces
+pub mod FaceFaults
 pub mod NumberedCorners
 pub mod TurnedFaces
 pub mod Walls

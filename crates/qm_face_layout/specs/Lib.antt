@@ -1,4 +1,5 @@
 pub mod PlaneNumbers
 pub mod ValidFace
 pub mod FacesLayout
+pub mod FaceFaults
 pub mod FaceCorners

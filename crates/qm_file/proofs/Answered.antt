@@ -53,13 +53,13 @@ module _ (bytes : List ℕ) where
   pub answer_found : (answer : Result TreeFile FileFault) → AreBytes bytes → AnswersTreeFile (λ found. found) (λ _. length bytes) answer (read_file bytes) → IfOk answer (λ found. IsValidFile found × (bytes ≡ file_bytes found) × (length bytes ≤ file_limit))
   answer_found (Ok found) are is =
       let read = read_file_found bytes found (length bytes) are is in
-      (read.valid, read.bytes, read.fits)
+      (read.valid, read.bytes_are, read.fits)
   answer_found (Err fault) are is = tt
 
   pub answer_only : (answer : Result TreeFile FileFault) → AnswersTreeFile (λ found. found) (λ _. length bytes) answer (read_file bytes) → (file : TreeFile) → IsValidFile file → bytes ≡ file_bytes file → length bytes ≤ file_limit → MatchResult answer (λ found. found ≡ file) (λ fault. fault ≡ faults.Memory)
   answer_only (Ok found) is file valid written fits =
-      let again = read_file_again bytes file (record { valid = valid; bytes = written; fits = fits }) in
+      let again = read_file_again bytes file (record { valid = valid; bytes_are = written; fits = fits }) in
       let e = sym is ∙ again in
       cc
   answer_only (Err fault) is file valid written fits =
-      no_fault fault (read_file bytes) file (length bytes) (read_file_again bytes file (record { valid = valid; bytes = written; fits = fits })) is
+      no_fault fault (read_file bytes) file (length bytes) (read_file_again bytes file (record { valid = valid; bytes_are = written; fits = fits })) is

@@ -8,10 +8,11 @@ ghost use Rattle.qm_partition.specs.declared.node.Leaf.{Leaf};
 ghost use Rattle.qm_partition.specs.Partition.{Partition};
 ghost use Rattle.qm_partition.specs.Tree.{Tree};
 ghost use Rattle.qm_partition.specs.Numbering.{AreNumbered};
-ghost use Rattle.qm_formats.specs.Layout.{bad};
+ghost use Rattle.qm_formats.specs.Layout.{got, bad};
+ghost use Rattle.qm_formats.specs.Fields.{AreBytes};
 ghost use Rattle.qm_formats.specs.FileParts.{is_plane, short, too_long};
 ghost use Rattle.qm_formats.specs.Exact.{IsExact};
-ghost use Rattle.qm_formats.specs.FileLayout.{are_numbered, file_layout, file_bytes, file_limit, read_file};
+ghost use Rattle.qm_formats.specs.FileLayout.{are_numbered, file_layout, file_bytes, file_limit, read_file, IsFileOf};
 ghost use Rattle.qm_formats.specs.TreeFile.{TreeFile, IsValidFile};
 ghost use Rattle.qm_formats.specs.Upgraded.{upgraded};
 ghost use Rattle.qm_formats.specs.FirstVersion.{first_version, first_version_bytes};
@@ -21,6 +22,11 @@ pub fn exact_layout()
     ensures { IsExact file_layout }
 {}
 
+/// A file is read in bytes exactly where they are those of a valid file, and no more than are read.
+pub fn read_tree_file()
+    ensures { (bytes : List ℕ) (file : TreeFile) → AreBytes bytes → (read_file bytes ≡ got file (length bytes) ↔ IsFileOf bytes file) }
+{}
+
 /// No two tree files have the same bytes.
 pub fn one_tree_file()
     ensures { (file other : TreeFile) → IsValidFile file → IsValidFile other → file_bytes file ≡ file_bytes other → length (file_bytes file) ≤ file_limit → file ≡ other }
@@ -28,7 +34,7 @@ pub fn one_tree_file()
 
 /// What is left of a valid file that is cut off is short where it ends, or too long.
 pub fn cut_file()
-    ensures { (file : TreeFile) (front behind : List ℕ) → IsValidFile file → length (file_bytes file) < 2 ^ 62 → file_bytes file ≡ front ++ behind → 0 < length behind → read_file front ≡ (if nat_lt file_limit (length front) then bad too_long file_limit else bad short (length front)) }
+    ensures { (file : TreeFile) (front behind : List ℕ) → IsValidFile file → file_bytes file ≡ front ++ behind → 0 < length behind → read_file front ≡ (if nat_lt file_limit (length front) then bad too_long file_limit else bad short (length front)) }
 {}
 
 /// In version 2 a valid file is valid, one of version 1 has eight bytes more, and one of version 2 stays as it is.

@@ -1,6 +1,7 @@
--- The numbers of children lie below the counts of nodes and leaves.
+-- The numbers of children lie below the counts of nodes and leaves, and below no less.
 use Rattle.std.proofs.Common.{◌<◌, ◌≤◌, ℕ, ◌+◌, ◌++◌, All, arith}
-use Rattle.std.proofs.lemmas.List.Elements.{All-nil, All-cons, All-append}
+use Rattle.std.proofs.lemmas.List.Elements.{All-nil, All-cons, All-head, All-tail, All-append}
+use Rattle.qm_lists.proofs.Elements.{All-last_part}
 use Rattle.qm_partition.specs.declared.node.Child.{Child}
 use Rattle.qm_partition.specs.declared.node.Child.TheVariants.{Node, Leaf}
 use Rattle.qm_partition.specs.declared.node.Node.{Node as NodeRecord}
@@ -39,3 +40,16 @@ module _ (nodes leaves : ℕ) where
       All-cons HasBelow top (nodes_of front (n + 1) k ++ nodes_of back n_back k_back)
       (record { front = child_below front (n + 1) k fits_front fit_front; back = child_below back n_back k_back fits_back fit_back })
       (All-append HasBelow (nodes_of front (n + 1) k) (nodes_of back n_back k_back) (children_below front (n + 1) k fits_front fit_front) (children_below back n_back k_back fits_back fit_back))
+
+  -- where all children are below, there are no more leaves
+  pub leaves_below : (shape : Partition) (n k : ℕ) → IsBelow (child_of shape n k) → All HasBelow (nodes_of shape n k) → k + leaf_count shape ≤ leaves
+  leaves_below (leaf found) n k own below = omega (arith, own)
+  leaves_below (node p front back) n k own below =
+      let n_back = nodes_after front (n + 1) in
+      let k_back = leaves_after front k in
+      let top : NodeRecord = record { plane = p; front = child_of front (n + 1) k; back = child_of back n_back k_back } in
+      let in_front = nodes_of front (n + 1) k in
+      let behind = nodes_of back n_back k_back in
+      let both = All-tail HasBelow top (in_front ++ behind) below in
+      let of_back = leaves_below back n_back k_back (All-head HasBelow top (in_front ++ behind) below).back (All-last_part HasBelow in_front behind both) in
+      omega (arith, of_back, leaves_after-count front k, leaf_count-node p front back)

@@ -1,5 +1,5 @@
 -- A tree file that is cut is too short, or too long as it is.
-use Rattle.std.proofs.Common.{◌≡◌, ◌<◌, ℕ, ◌^◌, Bool, cond, ltb, eqb, List, ◌++◌, length, codes, sym, ap, arith, inl, inr}
+use Rattle.std.proofs.Common.{◌≡◌, ◌<◌, ℕ, Bool, cond, ltb, eqb, List, ◌++◌, length, codes, sym, ap, arith, inl, inr}
 use Rattle.std.specs.Prelude.{IsTrue}
 use Rattle.std.specs.Int.{w8, w32, w64}
 use Rattle.std.proofs.lemmas.List.{length-append}
@@ -124,7 +124,7 @@ module _ {F X : Type 0} (ends : F) (layout : Layout F X) (exact : IsExact layout
   prefix_to_end behind_it x front behind right bytes some =
       ap (λ (answer : Decoded F X). decoded_then answer (λ x next. cond (ltb next (length front)) (bad behind_it next) (got x next))) (prefix_short x front behind right bytes some)
 
-pub prefix_cut_off : (content : TreeFile) (front behind : List ℕ) → IsValidFile content → length (file_bytes content) < 2 ^ 62 → file_bytes content ≡ front ++ behind → 0 < length behind → read_file front ≡ cond (ltb file_limit (length front)) (bad too_long file_limit) (bad short (length front))
+pub prefix_cut_off : (content : TreeFile) (front behind : List ℕ) → IsValidFile content → file_bytes content ≡ front ++ behind → 0 < length behind → read_file front ≡ cond (ltb file_limit (length front)) (bad too_long file_limit) (bad short (length front))
 unfolding read_file file_bytes
-prefix_cut_off content front behind valid small bytes some =
-    ap (λ (answer : Decoded _ _). cond (ltb file_limit (length front)) (bad too_long file_limit) answer) (prefix_to_end short file_layout file_exact file_cuttable trailing content front behind (valid_right content valid small) bytes some)
+prefix_cut_off content front behind valid bytes some =
+    ap (λ (answer : Decoded _ _). cond (ltb file_limit (length front)) (bad too_long file_limit) answer) (prefix_to_end short file_layout file_exact file_cuttable trailing content front behind (valid_right content valid) bytes some)

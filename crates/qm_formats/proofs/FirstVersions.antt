@@ -26,4 +26,4 @@ first_version_file tree rows =
     λ i. of_header i ++ ((tree_layout header).bytes_of tree ++ of_rows i)
 
 pub first_version_read : (tree : Tree) (rows : Option (List (List Bool))) → IsValidFile (first_version tree rows) → length (first_version_bytes tree rows) ≤ file_limit → read_file (first_version_bytes tree rows) ≡ got (first_version tree rows) (length (first_version_bytes tree rows))
-first_version_read tree rows valid fits = read_file_again (first_version_bytes tree rows) (first_version tree rows) (record { valid = valid; bytes = sym (first_version_file tree rows); fits = fits })
+first_version_read tree rows valid fits = read_file_again (first_version_bytes tree rows) (first_version tree rows) (record { valid = valid; bytes_are = sym (first_version_file tree rows); fits = fits })

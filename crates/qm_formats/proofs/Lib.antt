@@ -3,6 +3,7 @@ pub mod ReadParts
 pub mod Standing
 pub mod ExactParts
 pub mod ReadToEnd
+pub mod ShortFaults
 pub mod ReadLists
 pub mod ExactFields
 pub mod PackedRows

@@ -4,7 +4,7 @@ use Rattle.std.specs.Prelude.{IsTrue, unsigned_abs}
 use Rattle.std.specs.Int.{◌∣◌, Width, w32, w64}
 use mir.Val.{hbits}
 use Rattle.std.proofs.Math.Nat.{eq-one_of_dvd-one}
-use Rattle.std.proofs.lemmas.Bool.{and_parts, and_from, lt-ltb, le-leb, leb-true, eq-eqb, eqb-true}
+use Rattle.std.proofs.lemmas.Bool.{and_parts, and_from, lt-ltb, ltb-true, le-leb, leb-true, eq-eqb, eqb-true}
 use Rattle.qm_space.specs.Plane.{Plane}
 use Rattle.qm_space.specs.Bounds.{normal_bound, distance_bound}
 use Rattle.qm_space.specs.Reduced.{leads_positive, IsReduced}
@@ -126,6 +126,18 @@ unfolding node_layout unsigned
 node_right here plane below =
     and_from (ltb here.plane (2 ^ 32)) (child_layout.right here.front && child_layout.right here.back) (lt-ltb here.plane (2 ^ 32) plane)
     (and_from (child_layout.right here.front) (child_layout.right here.back) (child_right here.front below.front) (child_right here.back below.back))
+
+right_child : (child : Child) → child_layout.right child ≡ true → IsBelow (2 ^ 63) (2 ^ 63) child
+unfolding child_layout signed
+right_child (Node n) right = ltb-true n (2 ^ 63) right
+right_child (Leaf k) right = ltb-true k (2 ^ 63) right
+
+pub right_node : (here : NodeRecord) → node_layout.right here ≡ true → HasBelow (2 ^ 63) (2 ^ 63) here
+unfolding node_layout unsigned
+right_node here right =
+    let children = and_parts (ltb here.plane (2 ^ 32)) (child_layout.right here.front && child_layout.right here.back) right in
+    let each = and_parts (child_layout.right here.front) (child_layout.right here.back) children.1 in
+    record { front = right_child here.front each.0; back = right_child here.back each.1 }
 
 -- ---- leaves
 

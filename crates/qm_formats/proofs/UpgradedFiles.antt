@@ -11,6 +11,7 @@ valid_in_second file valid =
     record {
       of_version = inr (record { version = refl; bound = elim (valid.of_version) [ inl first ↦ inl first.bound | inr second ↦ second.bound ] });
       well_made = valid.well_made;
+      few_nodes = valid.few_nodes;
       reduced = valid.reduced;
       rows = valid.rows;
       sections = valid.sections;

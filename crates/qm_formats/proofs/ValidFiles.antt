@@ -1,31 +1,32 @@
--- A file of fewer than 2^62 bytes can be written and read again exactly where it is valid.
-use Rattle.std.proofs.Common.{◌≡◌, ◌<◌, ◌≤◌, ℕ, ◌+◌, ◌*◌, ◌^◌, Bool, true, false, cond, eqb, ltb, leb, ◌&&◌, List, [], ◌∷◌, ◌++◌, length, All, Option, Some, None, get_or, refl, ap, subst, ◌∙◌, arith}
+-- A file can be written and read again exactly where it is valid.
+use Rattle.std.proofs.Common.{◌≡◌, ◌<◌, ◌≤◌, ℕ, ◌+◌, ◌^◌, Bool, true, false, cond, eqb, ltb, leb, ◌&&◌, List, [], ◌∷◌, All, Option, Some, None, get_or, refl, ap, subst, ◌∙◌, arith}
 use Rattle.std.specs.Prelude.{IfSome, is_some, count_by}
 use Rattle.std.specs.List.{list_all}
 use Rattle.std.proofs.lemmas.Bool.{and_parts, and_from, lt-ltb, ltb-true, le-leb, eq-eqb}
-use Rattle.std.proofs.lemmas.List.{length-append, get_or_default}
+use Rattle.std.proofs.lemmas.List.{get_or_default}
 use Rattle.std.proofs.lemmas.List.Sums.{count_by-le-length}
 use Rattle.std.proofs.lemmas.List.Elements.{All-nil, All-cons, All-head, All-tail}
 use Rattle.qm_space.specs.Plane.{Plane}
 use Rattle.qm_space.specs.Reduced.{IsReduced}
 use Rattle.qm_partition.specs.declared.node.Node.{Node as NodeRecord}
 use Rattle.qm_partition.specs.declared.node.Leaf.{Leaf as LeafRecord}
-use Rattle.qm_partition.specs.Counting.{leaves_of}
-use Rattle.qm_partition.specs.Numbering.{nodes_of, AreNumbered}
+use Rattle.qm_partition.specs.Counting.{leaves_of, node_count}
+use Rattle.qm_partition.specs.Numbering.{child_of, nodes_of, AreNumbered}
+use Rattle.qm_partition.specs.Partition.{Partition, leaf, node}
 use Rattle.qm_partition.specs.Arrays.{partition_of, tree_of}
 use Rattle.qm_partition.specs.WellMade.{IsWellMade, IsMadeOf}
 use Rattle.qm_partition.specs.inner.Parts.{AreParts}
 use Rattle.qm_partition.proofs.Counts.{one_leaf_more, length-nodes_of}
 use Rattle.qm_partition.proofs.MadeTrees.{made_of_parts, parts_of_made}
 use Rattle.qm_contacts.specs.NumberedLeaves.{is_numbered}
-use Rattle.qm_formats.specs.Layout.{Layout, bytes_of_each, right_option, many, each}
-use Rattle.qm_formats.specs.Fields.{unsigned, signed, raw}
+use Rattle.qm_formats.specs.Layout.{right_option, many, each}
+use Rattle.qm_formats.specs.Fields.{unsigned}
 use Rattle.qm_formats.specs.FileParts.{plane_layout, node_layout, leaf_layout}
 use Rattle.qm_formats.specs.TreeFile.{TreeFile, AreRows, IsValidFile}
-use Rattle.qm_formats.specs.FileLayout.{Header, is_version, magic_layout, bound_layout, section_count_layout, file_header_layout, numbered_answer, are_numbered, are_ordered, own_row_layout, planes_layout, nodes_layout, leaves_layout, rows_layout, tree_layout, sections_layout, header_of, file_layout, file_bytes}
-use Rattle.qm_formats.proofs.RightParts.{right_each_at, right_each_from, reduced_plane, right_plane, plane_right, node_right, leaf_right, right_leaf, row_right, right_row}
+use Rattle.qm_formats.specs.FileLayout.{Header, is_version, magic_layout, bound_layout, section_count_layout, file_header_layout, numbered_answer, are_numbered, are_ordered, own_row_layout, planes_layout, nodes_layout, leaves_layout, rows_layout, tree_layout, sections_layout, header_of, file_layout}
+use Rattle.qm_formats.proofs.RightParts.{right_each_at, right_each_from, reduced_plane, right_plane, plane_right, node_right, right_node, leaf_right, right_leaf, row_right, right_row}
 use Rattle.qm_formats.proofs.RightSections.{IsRightVersion, version_of_right, right_of_version, few_sections, right_sections, sections_right}
-use Rattle.qm_formats.proofs.ChildNumbers.{children_below}
+use Rattle.qm_formats.proofs.ChildNumbers.{IsBelow, HasBelow, children_below, leaves_below}
 use Rattle.qm_formats.proofs.ExactFile.{right_each_length, right_counts, right_parts, CanStand, counted_parts, stand_of_tree, own_tree}
 
 -- a test that each element passes
@@ -71,12 +72,14 @@ rows_right numbered (Some rows) are =
 record AreOfTree (planes : List Plane) (nodes : List NodeRecord) (leaves : List LeafRecord) : Type 0 where
   made : IsMadeOf (tree_of planes nodes leaves) planes nodes leaves
   reduced : All IsReduced planes
+  below : All (HasBelow (2 ^ 63) (2 ^ 63)) nodes
 
 of_tree : (header : Header) (planes : List Plane) (nodes : List NodeRecord) (leaves : List LeafRecord) → CanStand header planes nodes leaves → AreOfTree planes nodes leaves
 of_tree header planes nodes leaves can =
     let counted = counted_parts header planes nodes leaves can in
     let are = right_parts header planes nodes leaves can in
     let each_plane = right_each_at (λ _. plane_layout) 0 header.planes planes are.of_planes in
+    let each_node = right_each_at (λ _. node_layout) 0 header.nodes nodes are.of_nodes in
     let each_leaf = right_each_at (λ _. leaf_layout) 0 header.leaves leaves are.of_leaves in
     let named = list_all-passed (λ here. ltb here.plane header.planes) nodes are.named in
     let parts : AreParts planes nodes leaves = record {
@@ -88,10 +91,19 @@ of_tree header planes nodes leaves can =
     record {
       made = made_of_parts planes nodes leaves parts (partition_of nodes leaves, counted.numbered);
       reduced = λ k d within. (reduced_plane (get_or planes k d) (right_plane (get_or planes k d) (each_plane k d within))).0;
+      below = λ k d within. right_node (get_or nodes k d) (each_node k d within);
     }
 
 pub made_of_right : (header : Header) (planes : List Plane) (nodes : List NodeRecord) (leaves : List LeafRecord) → CanStand header planes nodes leaves → IsMadeOf (tree_of planes nodes leaves) planes nodes leaves
 made_of_right header planes nodes leaves can = (of_tree header planes nodes leaves can).made
+
+-- a partition as the first child, whose nodes can stand in a file, has fewer than 2^63
+top_below : (shape : Partition) → IsBelow (2 ^ 63) (2 ^ 63) (child_of shape 0 0)
+top_below (leaf found) = omega arith
+top_below (node plane front back) = omega arith
+
+few_nodes_of : (shape : Partition) → All (HasBelow (2 ^ 63) (2 ^ 63)) (nodes_of shape 0 0) → node_count shape < 2 ^ 63
+few_nodes_of shape below = omega (arith, one_leaf_more shape, leaves_below (2 ^ 63) (2 ^ 63) shape 0 0 (top_below shape) below)
 
 pub right_valid : (file : TreeFile) → file_layout.right file ≡ true → IsValidFile file
 unfolding file_layout rows_layout sections_layout
@@ -110,53 +122,19 @@ right_valid file right =
     record {
       of_version = version_of_right file (record { of_version = counts.of_version; of_bound = counts.of_bound; of_sections = counts.of_sections });
       well_made = subst IsWellMade (own_tree file.tree) tree.made.well_made;
+      few_nodes = few_nodes_of file.tree.shape tree.below;
       reduced = tree.reduced;
       rows = rows_valid header.numbered file.rows header.has_rows behind.0;
       sections = right_sections 0 header.sections file.sections behind.1;
     }
 
--- ---- what is valid and not too long is right
-
-module _ {F X : Type 0} (layout : ℕ → Layout F X) (least : ℕ) (enough : (k : ℕ) (x : X) → least ≤ length ((layout k).bytes_of x)) where
-  -- values of so many bytes each, or more
-  values_at_most : (k : ℕ) (xs : List X) → length xs * least ≤ length (bytes_of_each layout k xs)
-  values_at_most k [] = omega arith
-  values_at_most k (x ∷ xs) = omega (arith, enough k x, values_at_most (k + 1) xs, length-append ((layout k).bytes_of x) (bytes_of_each layout (k + 1) xs))
-
-node_bytes : (k : ℕ) (here : NodeRecord) → 1 ≤ length (node_layout.bytes_of here)
-unfolding node_layout unsigned raw
-node_bytes k here = omega arith
-
-leaf_bytes : (k : ℕ) (found : LeafRecord) → 5 ≤ length (leaf_layout.bytes_of found)
-unfolding leaf_layout signed unsigned raw
-leaf_bytes k found = omega arith
-
--- there are no more nodes than bytes, and five bytes for each leaf
-pub counts_at_most : (file : TreeFile) → (length (nodes_of file.tree.shape 0 0) ≤ length (file_bytes file)) × (length (leaves_of file.tree.shape) * 5 ≤ length (file_bytes file))
-unfolding file_bytes file_layout tree_layout planes_layout nodes_layout leaves_layout
-counts_at_most file =
-    let header = header_of file in
-    let nodes = nodes_of file.tree.shape 0 0 in
-    let leaves = leaves_of file.tree.shape in
-    let p = file_header_layout.bytes_of header in
-    let q = (planes_layout header).bytes_of file.tree.planes in
-    let r = bytes_of_each (λ _. node_layout) 0 nodes in
-    let s = bytes_of_each (λ _. leaf_layout) 0 leaves in
-    let t = (rows_layout header).bytes_of file.rows in
-    let u = (sections_layout header).bytes_of file.sections in
-    let whole = length-append p ((q ++ (r ++ s)) ++ (t ++ u)) in
-    let behind_header = length-append (q ++ (r ++ s)) (t ++ u) in
-    let of_tree = length-append q (r ++ s) in
-    let behind_planes = length-append r s in
-    let few_nodes = values_at_most (λ _. node_layout) 1 node_bytes 0 nodes in
-    let few_leaves = values_at_most (λ _. leaf_layout) 5 leaf_bytes 0 leaves in
-    (omega arith, omega arith)
+-- ---- what is valid is right
 
 flag_right : (flag : Bool) → ((ltb (cond flag 1 0) 256) && (leb (cond flag 1 0) 1)) ≡ true
 flag_right true = refl
 flag_right false = refl
 
-header_right : (header : Header) → IsRightVersion header.version header.bound header.sections → header.planes < 2 ^ 32 → header.nodes < 2 ^ 62 → header.leaves ≡ header.nodes + 1 → header.numbered ≤ header.leaves → file_header_layout.right header ≡ true
+header_right : (header : Header) → IsRightVersion header.version header.bound header.sections → header.planes < 2 ^ 32 → header.nodes < 2 ^ 63 → header.leaves ≡ header.nodes + 1 → header.numbered ≤ header.leaves → file_header_layout.right header ≡ true
 unfolding file_header_layout magic_layout unsigned
 header_right header version planes nodes leaves numbered =
     let of_planes = (ltb header.planes (2 ^ 64)) && (ltb header.planes (2 ^ 32)) in
@@ -177,9 +155,9 @@ header_right header version planes nodes leaves numbered =
     (and_from of_flag (of_bound && of_sections) (flag_right header.has_rows)
     (and_from of_bound of_sections version.of_bound version.of_sections))))))
 
-pub valid_right : (file : TreeFile) → IsValidFile file → length (file_bytes file) < 2 ^ 62 → file_layout.right file ≡ true
+pub valid_right : (file : TreeFile) → IsValidFile file → file_layout.right file ≡ true
 unfolding file_layout tree_layout planes_layout nodes_layout leaves_layout rows_layout sections_layout are_ordered are_numbered
-valid_right file valid small =
+valid_right file valid =
     let header = header_of file in
     let shape = file.tree.shape in
     let planes = file.tree.planes in
@@ -187,10 +165,9 @@ valid_right file valid small =
     let leaves = leaves_of shape in
     let numbered : AreNumbered shape nodes leaves = record { nodes_are = refl; leaves_are = refl } in
     let parts = parts_of_made planes nodes leaves file.tree (record { planes_are = refl; numbered = numbered; well_made = valid.well_made }) in
-    let few = counts_at_most file in
     let count = length-nodes_of shape 0 0 in
     let more = one_leaf_more shape in
-    let below = children_below (2 ^ 63) (2 ^ 63) shape 0 0 (omega (arith, few.0, count, small)) (omega (arith, few.1, small)) in
+    let below = children_below (2 ^ 63) (2 ^ 63) shape 0 0 (omega (arith, valid.few_nodes)) (omega (arith, more, valid.few_nodes)) in
     let of_planes = (planes_layout header).right planes in
     let of_nodes = (nodes_layout header).right nodes in
     let of_leaves = (leaves_layout header).right leaves in
@@ -198,7 +175,7 @@ valid_right file valid small =
     let of_sections = (sections_layout header).right file.sections in
     let version = right_of_version file valid.of_version (few_sections file.sections valid.sections) in
     and_from (file_header_layout.right header) ((of_planes && (of_nodes && of_leaves)) && (of_rows && of_sections))
-    (header_right header version parts.few (omega (arith, few.0, small)) (omega (arith, count, more)) (count_by-le-length is_numbered leaves))
+    (header_right header version parts.few (omega (arith, count, valid.few_nodes)) (omega (arith, count, more)) (count_by-le-length is_numbered leaves))
     (and_from (of_planes && (of_nodes && of_leaves)) (of_rows && of_sections)
     (and_from of_planes (of_nodes && of_leaves)
     (right_each_from (λ _. plane_layout) 0 header.planes planes refl (λ i d within. plane_right (get_or planes i d) (valid.reduced i d within) (parts.leads i d within)))

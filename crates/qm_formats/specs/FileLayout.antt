@@ -1,9 +1,7 @@
-use Rattle.std.specs.Prelude.{◌≡◌, ◌↔◌, IsTrue, ◌^◌, ℕ, ◌+◌, ◌-◌, Bool, true, false, ◌&&◌, ◌||◌, ◌==◌, nat_lt, nat_le, List, [], ◌∷◌, length, replicate, slice_index_or, Option, is_some, codes, count_by, if◌then◌else◌}
+use Rattle.std.specs.Prelude.{◌≡◌, ◌≤◌, ◌↔◌, IsTrue, ◌^◌, ℕ, ◌+◌, ◌-◌, Bool, false, ◌&&◌, ◌||◌, ◌==◌, nat_lt, nat_le, List, length, slice_index_or, Option, is_some, codes, count_by, if◌then◌else◌}
 use Rattle.std.specs.Int.{w8, w32, w64}
 use Rattle.std.specs.List.{list_all}
 use Rattle.qm_space.specs.Plane.{Plane}
-use Rattle.qm_partition.specs.declared.node.Child.{Child}
-use Rattle.qm_partition.specs.declared.node.Child.TheVariants.{Node, Leaf}
 use Rattle.qm_partition.specs.declared.node.Node.{Node as NodeRecord}
 use Rattle.qm_partition.specs.declared.node.Leaf.{Leaf as LeafRecord}
 use Rattle.qm_partition.specs.Tree.{Tree}
@@ -16,7 +14,7 @@ use Rattle.qm_formats.specs.Layout.{Decoded, Layout, seen_as, recast, tested, fo
 use Rattle.qm_formats.specs.Fields.{raw, unsigned, fixed_before, unwritten}
 use Rattle.qm_formats.specs.RowBits.{row_bits}
 use Rattle.qm_formats.specs.FileParts.{FileFaultKind, short, magic, counts, node_order, row_form, trailing, too_long, header_form, section_form, plane_layout, node_layout, leaf_layout}
-use Rattle.qm_formats.specs.TreeFile.{Section, TreeFile, small_bound, large_bound}
+use Rattle.qm_formats.specs.TreeFile.{Section, TreeFile, IsValidFile, small_bound, large_bound}
 
 -- The bytes of a tree file: a header, the planes, the nodes, the leaves, the rows of visibility where they are there, and
 -- the sections. Version 1 has neither a bound nor sections.
@@ -170,3 +168,9 @@ file_limit = 1073741824
 -- what is read in a file, or the first fault
 unfoldable pub read_file : List ℕ → Decoded FileFaultKind TreeFile
 read_file file = read_whole_file file_layout file_limit too_long trailing file
+
+-- the bytes are those of a valid file, and no more than are read
+pub record IsFileOf (bytes : List ℕ) (file : TreeFile) : Type 0 where
+  pub valid : IsValidFile file
+  pub bytes_are : bytes ≡ file_bytes file
+  pub fits : length bytes ≤ file_limit

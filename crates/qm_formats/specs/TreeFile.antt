@@ -1,7 +1,7 @@
 use Rattle.std.specs.Prelude.{◌≡◌, ◌<◌, ◌^◌, ◌⊎◌, ℕ, Bool, true, false, List, [], ◌∷◌, length, slice_index_or, Option, count_by, All, IfSome}
 use Rattle.qm_space.specs.Reduced.{IsReduced}
 use Rattle.qm_partition.specs.Tree.{Tree}
-use Rattle.qm_partition.specs.Counting.{leaves_of}
+use Rattle.qm_partition.specs.Counting.{leaves_of, node_count}
 use Rattle.qm_partition.specs.WellMade.{IsWellMade}
 use Rattle.qm_contacts.specs.NumberedLeaves.{is_numbered}
 use Rattle.qm_formats.specs.Fields.{AreBytes}
@@ -64,10 +64,11 @@ AreSectionsAbove before (section ∷ sections) = IsSectionAbove before section �
 abbrev pub AreSections : List Section → Type 0
 AreSections sections = AreSectionsAbove 0 sections
 
--- what can stand in a tree file
+-- what can stand in a tree file, which may have more bytes than are read; a number of a node is written with a sign, in 64 bits
 pub record IsValidFile (file : TreeFile) : Type 0 where
   pub of_version : IsOfVersion file
   pub well_made : IsWellMade file.tree
+  pub few_nodes : node_count file.tree.shape < 2 ^ 63
   pub reduced : All IsReduced file.tree.planes
   pub rows : IfSome file.rows (AreRows (count_by is_numbered (leaves_of file.tree.shape)))
   pub sections : AreSections file.sections

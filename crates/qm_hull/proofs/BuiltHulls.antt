@@ -1,5 +1,5 @@
 -- The plain file of the tree that is built of moved obstacles is a hull.
-use Rattle.std.proofs.Common.{◌≡◌, inr, List, subst, sym}
+use Rattle.std.proofs.Common.{◌≡◌, ◌<◌, ◌^◌, inr, List, subst, sym}
 use Rattle.std.specs.Prelude.{IfSome, count_by}
 use Rattle.qm_space.specs.Bounds.{world_extent}
 use Rattle.qm_space.specs.Cuboid.{Cuboid}
@@ -13,7 +13,7 @@ use Rattle.qm_blocking.specs.HullContents.{HasHullContents}
 use Rattle.qm_partition.specs.LeafOfPoint.{leaf_record_at}
 use Rattle.qm_partition.specs.Tree.{Tree}
 use Rattle.qm_partition.specs.Ways.{HasPoints}
-use Rattle.qm_partition.specs.Counting.{leaves_of}
+use Rattle.qm_partition.specs.Counting.{leaves_of, node_count}
 use Rattle.qm_solid_tree.specs.GivesContents.{LeadsPoints, GivesContents}
 use Rattle.qm_solid_tree.specs.TreeOf.{IsTreeOf}
 use Rattle.qm_solid_tree.proofs.SameTree.{tree_back}
@@ -37,6 +37,7 @@ pub record IsBuiltOf (world : MovedWorld) (tree : Tree) : Type 0 where
   pub is_tree : IsTreeOf (solids_of world) world.book tree
   pub points : HasPoints tree
   pub contents : GivesContents tree (solids_of world)
+  pub few : node_count tree.shape < 2 ^ 63
 
 module _ (map : MapFile) (box : Cuboid) (origin : HasOrigin box) (world : MovedWorld) (is : IsMovedWorld map box world) where
   hull_tree : (tree : Tree) → IsTreeOf (solids_of world) world.book tree → IsHullTree map box tree
@@ -58,10 +59,11 @@ module _ (map : MapFile) (box : Cuboid) (origin : HasOrigin box) (world : MovedW
         hull_contents map box origin is.moved.brushes is.moved.are x found has;
   }
 
-  valid_plain : (file : TreeFile) → IsPlainFile world_extent file → IsTreeOf (solids_of world) world.book file.tree → IsValidFile file
-  valid_plain file plain is_tree = record {
+  valid_plain : (file : TreeFile) → IsPlainFile world_extent file → IsTreeOf (solids_of world) world.book file.tree → node_count file.tree.shape < 2 ^ 63 → IsValidFile file
+  valid_plain file plain is_tree few = record {
     of_version = inr (record { version = plain.version; bound = inr plain.bound_is });
     well_made = tree_well_made (solids_of world) world.book is.filled.planes file.tree is_tree;
+    few_nodes = few;
     reduced = tree_reduced (solids_of world) world.book is.filled.planes file.tree is_tree;
     rows = subst (λ rows. IfSome rows (AreRows (count_by is_numbered (leaves_of file.tree.shape)))) (sym plain.no_rows) tt;
     sections = subst (λ (sections : List Section). AreSections sections) (sym plain.no_sections) tt;
@@ -79,7 +81,7 @@ module _ (map : MapFile) (box : Cuboid) (origin : HasOrigin box) (world : MovedW
             solid_if_met map box x (leaf_record_at file.tree.planes file.tree.shape x).contents (contents.gives x in_cube off) meets;
         have_points = built.points;
         is_plain = plain;
-        is_valid = valid_plain file plain built.is_tree;
+        is_valid = valid_plain file plain built.is_tree built.few;
       }
 
   pub built_hull : (file : TreeFile) (tree : Tree) → IsPlainFile world_extent file → file.tree ≡ tree → IsBuiltOf world tree → IsHull map box file

@@ -8,12 +8,12 @@ use Rattle.qm_formats.specs.Fields.{AreBytes, are_bytes, raw, unsigned}
 use Rattle.qm_formats.specs.Exact.{IsExact}
 use Rattle.qm_formats.specs.FileParts.{FileFaultKind, short, section_form}
 use Rattle.qm_formats.specs.TreeFile.{TreeFile}
-use Rattle.qm_formats.specs.FileLayout.{file_layout, file_bytes, file_limit, read_file}
+use Rattle.qm_formats.specs.FileLayout.{file_layout, file_bytes, file_limit, read_file, IsFileOf}
 use Rattle.qm_formats.proofs.ExactParts.{seen_as_exact, tested_exact, part_exact, last_part_exact, exact_of_parts, each_exact, each_after_exact}
 use Rattle.qm_formats.proofs.ExactFields.{bytes-are, raw_exact, unsigned_32_exact, unsigned_64_exact, signed_32_exact}
 use Rattle.qm_formats.proofs.ExactFile.{right_each_length, right_each_after_length}
 use Rattle.qm_formats.proofs.ValidFiles.{right_valid, valid_right}
-use Rattle.qm_formats.proofs.WholeFile.{IsFileOf, read_file_found, read_file_again}
+use Rattle.qm_formats.proofs.WholeFile.{read_file_found, read_file_again}
 use Rattle.qm_model_layout.specs.BrushModel.{BrushModel}
 use Rattle.qm_model_layout.specs.ModelLayout.{KeptModel, box_layout, model_leaves_layout, counted_bytes_layout, kept_layout, decodes_for, is_model_head, is_model, file_read, model_of_kept, kept_of_model, tested_model_layout, can_be_kept, model_layout, models_layout}
 
@@ -103,12 +103,12 @@ module _ (bound numbered before : ℕ) where
   kept_there kept right =
       let its = file_of_kept kept right in
       let file = file_read (read_file kept.bytes) in
-      let long : length (file_bytes file) ≡ length kept.bytes = sym (ap length its.bytes) in
-      let same : kept_of_model (model_of_kept kept) ≡ kept = λ i. record { entity = kept.entity; box = kept.box; leaves = kept.leaves; bytes = sym its.bytes i } in (
+      let long : length (file_bytes file) ≡ length kept.bytes = sym (ap length its.bytes_are) in
+      let same : kept_of_model (model_of_kept kept) ≡ kept = λ i. record { entity = kept.entity; box = kept.box; leaves = kept.leaves; bytes = sym its.bytes_are i } in (
         same,
         and_from ((tested_model_layout bound numbered before).right (kept_of_model (model_of_kept kept))) (file_layout.right file && leb (length (file_bytes file)) file_limit)
             (subst (λ (k : KeptModel). IsTrue ((tested_model_layout bound numbered before).right k)) (sym same) right)
-            (and_from (file_layout.right file) (leb (length (file_bytes file)) file_limit) (valid_right file its.valid (omega (arith, long, its.fits))) (le-leb (length (file_bytes file)) file_limit (omega (arith, long, its.fits)))),
+            (and_from (file_layout.right file) (leb (length (file_bytes file)) file_limit) (valid_right file its.valid) (le-leb (length (file_bytes file)) file_limit (omega (arith, long, its.fits)))),
       )
 
   back : (model : BrushModel) → can_be_kept bound numbered before model ≡ true → (model_of_kept (kept_of_model model) ≡ model) × IsTrue ((tested_model_layout bound numbered before).right (kept_of_model model))
@@ -116,7 +116,7 @@ module _ (bound numbered before : ℕ) where
       let file = model.file in
       let both = and_parts ((tested_model_layout bound numbered before).right (kept_of_model model)) (file_layout.right file && leb (length (file_bytes file)) file_limit) right in
       let of_file = and_parts (file_layout.right file) (leb (length (file_bytes file)) file_limit) both.1 in
-      let again = read_file_again (file_bytes file) file (record { valid = right_valid file of_file.0; bytes = refl; fits = leb-true (length (file_bytes file)) file_limit of_file.1 }) in
+      let again = read_file_again (file_bytes file) file (record { valid = right_valid file of_file.0; bytes_are = refl; fits = leb-true (length (file_bytes file)) file_limit of_file.1 }) in
       let read : file_read (read_file (file_bytes file)) ≡ file = ap file_read again in
       ((λ i. record { entity = model.entity; box = model.box; leaves = model.leaves; file = read i }), both.0)
 

@@ -10,32 +10,17 @@ use Rattle.qm_formats.specs.FileParts.{FileFaultKind, short, trailing, section_f
 use Rattle.qm_formats.specs.TreeFile.{small_bound}
 use Rattle.qm_formats.specs.FileLayout.{file_layout, file_bytes, file_limit}
 use Rattle.qm_formats.proofs.ExactFields.{unsigned_32_exact, are_bytes-from, bytes-are}
+use Rattle.qm_formats.proofs.ShortFaults.{map_bad, then_bad, chosen_bad, chosen_end, stands_from}
 use Rattle.qm_formats.proofs.Standing.{stands_nothing, stands_both, behind_part, stands_first, stands_second}
 use Rattle.qm_model_layout.specs.BrushModel.{BrushModel, IsModelBehind, AreModelsBehind}
 use Rattle.qm_model_layout.specs.ModelLayout.{KeptModel, kept_layout, is_model, model_of_kept, kept_of_model, tested_model_layout, model_layout, models_layout, AreModelsBytes, read_models}
 use Rattle.qm_model_layout.specs.ModelFaults.{bytes_of_models, last_entity, AreFirstModels, BeginWithKept, IsFaultOfModelBytes, number_cut_off, model_cut_off, no_model, bytes_follow}
 use Rattle.qm_model_layout.proofs.ExactModels.{kept_exact, kept_bytes, kept_there, model_exact, models_exact}
-use Rattle.qm_model_layout.proofs.FaultKinds.{map_bad, then_bad, kept_alone, count_alone}
+use Rattle.qm_model_layout.proofs.FaultKinds.{kept_alone, count_alone}
 use Rattle.qm_model_layout.proofs.ValidModels.{HaveFileBytes, model_in_words, model_by_test, models_in_words, models_by_test}
 use Rattle.qm_model_layout.proofs.WholeSections.{parts_of_bytes, each_part, file_parts, own_bytes}
 
-chosen_bad : {F X : Type 0} (b : Bool) (x : X) (mid : ℕ) (fault : F) (place : ℕ) (other : F) (at : ℕ) → cond b (got x mid) (bad fault place) ≡ bad other at → (b ≡ false) × (other ≡ fault) × (at ≡ place)
-chosen_bad true x mid fault place other at is = absurd cc
-chosen_bad false x mid fault place other at is = (refl, cc, cc)
-
-chosen_end : {F X : Type 0} (b : Bool) (x : X) (mid : ℕ) (fault : F) (place : ℕ) (other : F) (at : ℕ) → cond b (bad fault place) (got x mid) ≡ bad other at → (b ≡ true) × (other ≡ fault) × (at ≡ place)
-chosen_end false x mid fault place other at is = absurd cc
-chosen_end true x mid fault place other at is = (refl, cc, cc)
-
 -- ---- a model as it is kept
-
-stands_from : (file : List ℕ) (at : ℕ) (part rest : List ℕ) → at ≤ length file → drop at file ≡ part ++ rest → StandsAt file at part (at + length part)
-stands_from file at part rest within is =
-    let behind = behind_part file at part rest is in
-    let long = length-append part rest in
-    let dropped = length-drop at file in
-    let whole = ap length is in
-    record { stands = is ∙ ap (λ (xs : List ℕ). part ++ xs) (sym behind); ends = refl; within = omega (arith, within, long, dropped, whole) }
 
 module _ (file : List ℕ) (at : ℕ) (kept : KeptModel) where
   kept_first : (next : ℕ) → IsRightAt kept_layout file at kept next → BeginWithKept (drop at file) kept

@@ -135,7 +135,7 @@ module _ (bound : ℕ) where
   unfolding read_plain
   file_in_words file are right fits decodes =
       let bytes = file_bytes file in
-      let again = read_file_again bytes file (record { valid = right_valid file right; bytes = refl; fits = fits }) in
+      let again = read_file_again bytes file (record { valid = right_valid file right; bytes_are = refl; fits = fits }) in
       let plain : read_plain bound bytes ≡ Some file = plain_from_decoded (read_file bytes) decodes ∙ ap (λ (answer : Decoded FileFaultKind TreeFile). Some (file_read answer)) again in
       let found = plain_found bound bytes file are plain in
       record { is_plain = found.is_plain; is_valid = found.is_valid; fits = found.fits }
@@ -226,7 +226,7 @@ module _ (bound numbered before : ℕ) (model : BrushModel) where
         bytes = and_from ((unsigned short w64).right (length bytes)) ((eqb (length bytes) (length bytes)) && are_bytes bytes) (fits_64_right (length bytes) (omega (arith, fits))) (and_from (eqb (length bytes) (length bytes)) (are_bytes bytes) (eq-eqb (length bytes) (length bytes) refl) (are_bytes-from bytes are));
         stands = and_from (ltb before model.entity) (is_box model.box && ascend_from 0 numbered model.leaves) (lt-ltb before model.entity is.above) (and_from (is_box model.box) (ascend_from 0 numbered model.leaves) box.1 (ascend_by_test 0 numbered model.leaves is.leaves));
         decodes = file_by_test bound model.file is.file;
-        file = valid_right model.file is.file.is_valid (omega (arith, fits));
+        file = valid_right model.file is.file.is_valid;
         fits = le-leb (length bytes) file_limit fits;
       })
 

@@ -1,5 +1,5 @@
 -- The brush models of a map, by one entity after another, and the one that the brushes of an entity make.
-use Rattle.std.proofs.Common.{◌≡◌, ◌≢◌, ◌≤◌, ℕ, ◌+◌, List, [], ◌∷◌, ◌++◌, length, inr, refl, sym, ap, subst, arith}
+use Rattle.std.proofs.Common.{◌≡◌, ◌≢◌, ◌<◌, ◌≤◌, ℕ, ◌+◌, ◌^◌, List, [], ◌∷◌, ◌++◌, length, inr, refl, sym, ap, subst, arith}
 use Rattle.std.specs.Prelude.{IfSome, count_by}
 use Rattle.std.specs.Prelude.{map as mapped}
 use Rattle.std.specs.List.{AllZip}
@@ -19,7 +19,7 @@ use Rattle.qm_solids.specs.Solid.{Solid}
 use Rattle.qm_solids.specs.Alike.{IsAlike}
 use Rattle.qm_solids.specs.InBook.{BookSolid, solids_in, IsBookOf}
 use Rattle.qm_partition.specs.Tree.{Tree}
-use Rattle.qm_partition.specs.Counting.{leaves_of}
+use Rattle.qm_partition.specs.Counting.{leaves_of, node_count}
 use Rattle.qm_solid_tree.specs.GivesContents.{GivesContents}
 use Rattle.qm_solid_tree.specs.TreeOf.{IsTreeOf}
 use Rattle.qm_contacts.specs.NumberedLeaves.{is_numbered}
@@ -74,10 +74,11 @@ module _ (map : MapFile) (world : Tree) where
 -- ---- the model of one entity
 
 -- the plain file of a tree that solids define is valid
-valid_plain : (solids : List Solid) (book : List Plane) (file : TreeFile) → AreBookPlanes book → IsPlainFile world_extent file → IsTreeOf solids book file.tree → IsValidFile file
-valid_plain solids book file planes plain is_tree = record {
+valid_plain : (solids : List Solid) (book : List Plane) (file : TreeFile) → AreBookPlanes book → IsPlainFile world_extent file → IsTreeOf solids book file.tree → node_count file.tree.shape < 2 ^ 63 → IsValidFile file
+valid_plain solids book file planes plain is_tree few = record {
   of_version = inr (record { version = plain.version; bound = inr plain.bound_is });
   well_made = tree_well_made solids book planes file.tree is_tree;
+  few_nodes = few;
   reduced = tree_reduced solids book planes file.tree is_tree;
   rows = subst (λ rows. IfSome rows (AreRows (count_by is_numbered (leaves_of file.tree.shape)))) (sym plain.no_rows) tt;
   sections = subst (λ (sections : List Section). AreSections sections) (sym plain.no_sections) tt;
@@ -93,10 +94,12 @@ module _ (map : MapFile) (world : Tree) (e : ℕ) (book : List Plane) (list : Li
   abbrev its_solids : List Solid
   its_solids = solids_in book list
 
-  pub model_of_brushes : (box : Cuboid) (touched numbers : List ℕ) (tree : Tree) (found : BrushModel) → IsOutline world its_solids box touched → AreSortedNumbers world touched numbers → IsTreeOf its_solids book tree → GivesContents tree its_solids →
+  pub model_of_brushes : (box : Cuboid) (touched numbers : List ℕ) (tree : Tree) (found : BrushModel) → IsOutline world its_solids box touched → AreSortedNumbers world touched numbers → IsTreeOf its_solids book tree → GivesContents tree its_solids → node_count tree.shape < 2 ^ 63 →
       model_found found ≡ record { entity = e; box = box; leaves = numbers; tree = tree } → IsPlainFile world_extent found.file → IsBrushModelOf map world e found
-  model_of_brushes box touched numbers tree found outline numbered is_tree gives same plain = record {
+  model_of_brushes box touched numbers tree found outline numbered is_tree gives few same plain = record {
     is_found = subst (IsModelOf map world e) (sym same) (model_of_alike map world e its_solids box touched numbers book tree are.solids outline numbered are.entered is_tree gives);
     is_plain = plain;
-    is_valid = valid_plain its_solids book found.file are.filled.planes plain (subst (IsTreeOf its_solids book) (sym (ap (λ (m : FoundModel). m.tree) same)) is_tree);
+    is_valid =
+        let its = sym (ap (λ (m : FoundModel). m.tree) same) in
+        valid_plain its_solids book found.file are.filled.planes plain (subst (IsTreeOf its_solids book) its is_tree) (subst (λ (t : Tree). node_count t.shape < 2 ^ 63) its few);
   }

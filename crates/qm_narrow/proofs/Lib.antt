@@ -9,7 +9,7 @@ pub mod Turns
 pub mod TurnedNormals
 pub mod Pairs
 pub mod KeptNormals
-pub mod NoPlanes
+pub mod LowestNormals
 pub mod Beams
 pub mod LookSamples
 pub mod WholeCorners

@@ -1,5 +1,5 @@
 -- What a look at a normal rests on: where it refuses a normal, no separator has it.
-use Rattle.std.proofs.Common.{◌≡◌, ℕ, ◌<◌, Bool, true, false, not, ℤ, pos, neg_ℤ, ◌+ℤ◌, ◌-ℤ◌, ◌*ℤ◌, ◌<ℤ◌, ◌≤ℤ◌, List, [], ◌∷◌, Contains, length, cond, refl, ap, sym, subst, ◌∙◌, IsTrue, ◌↔◌, arith, ◌⊎◌, ⊎_elim}
+use Rattle.std.proofs.Common.{◌≡◌, ℕ, ◌<◌, true, false, not, ℤ, pos, neg_ℤ, ◌+ℤ◌, ◌-ℤ◌, ◌*ℤ◌, ◌<ℤ◌, ◌≤ℤ◌, List, [], ◌∷◌, Contains, length, refl, ap, sym, subst, ◌∙◌, IsTrue, ◌↔◌, arith, ◌⊎◌, ⊎_elim}
 use Rattle.std.specs.Int.{int_max, int_min}
 use Rattle.std.proofs.lemmas.Int.{ints, clamps}
 use Rattle.std.proofs.Math.IntN.{*ℤ_comm}
@@ -7,14 +7,12 @@ use Rattle.qm_numbers.proofs.IntegerProducts.{linear, +ℤ-*ℤ, -ℤ-*ℤ, neg-
 use Rattle.qm_numbers.proofs.Signs.{by_sign, cancel_at_most, times_at_most, product_positive, product_not_negative, product_not_positive}
 use Rattle.qm_numbers.proofs.Ring.{variable, ◌⊕◌, ◌⊖◌, ◌⊗◌, solved}
 use Rattle.qm_space.specs.Point.{Point, point_times}
-use Rattle.qm_space.specs.Plane.{Plane, value, IsBehind, IsInFront, IsNotInFront, IsNotBehind, flipped, scaled}
+use Rattle.qm_space.specs.Plane.{Plane, value, IsBehind, IsInFront, IsNotInFront, IsNotBehind, flipped}
 use Rattle.qm_space.specs.Vector.{normal_of}
-use Rattle.qm_space.specs.Turned.{turned}
 use Rattle.qm_space.specs.Cuboid.{IsInStretch, least_product, greatest_product}
-use Rattle.qm_space.specs.ThreePoints.{outward_plane, IsPlaneThrough}
+use Rattle.qm_space.specs.ThreePoints.{outward_plane}
 use Rattle.qm_space.proofs.Planes.{same_point}
 use Rattle.qm_space.proofs.Cuboids.{least_product_bound, greatest_product_bound}
-use Rattle.qm_space.proofs.ReducedPlanes.{flipped_twice}
 use Rattle.qm_convex.specs.Winding.{Winding, corner_at, IsConvex}
 use Rattle.qm_convex.specs.Sides.{HasNoCornerInFront, HasNoCornerBehind}
 use Rattle.qm_convex.proofs.Corners.{corners_length, corner_in_list}
@@ -22,9 +20,9 @@ use Rattle.qm_separators.specs.Gains.{Gains}
 use Rattle.qm_separators.specs.inner.Found.{PartsAlong, SeparatesBy}
 use Rattle.qm_separators.proofs.Comparisons.{neg-*ℤ-neg}
 use Rattle.qm_separators.proofs.GainedPlanes.{gains_there}
-use Rattle.qm_separators.proofs.FoundPlanes.{whole_multiple}
 use Rattle.qm_separators.proofs.Normals.{like_lowest, flipped_lowest_normal}
 use Rattle.qm_separators.specs.Across.{HasLowestNormal}
+use Rattle.qm_narrow.specs.inner.Lowest.{IsLowestOf}
 use Rattle.qm_narrow.specs.inner.FoundPlanes.{AreAtLeastDistance, HasAlongAmong, HasAgainstAmong}
 use Rattle.qm_narrow.proofs.ListedNormals.{listed_along}
 use Rattle.qm_narrow.proofs.ParallelNormals.{same_normal}
@@ -215,7 +213,7 @@ none_along s p along h is i below =
     let a = is.touches.none_in_front h.d (omega (arith, linear)) i (corner_at s i) (let e = corners_length s in omega arith) in
     subst (λ q. IsNotInFront h q) (corner_in_list s i (corner_at s i) below) a
 
-times_back : (k : ℤ) (g : Plane) → point_times k (normal_of g) ≡ point_times (neg_ℤ k) (normal_of (flipped g))
+pub times_back : (k : ℤ) (g : Plane) → point_times k (normal_of g) ≡ point_times (neg_ℤ k) (normal_of (flipped g))
 times_back k g = same_point (point_times k (normal_of g)) (point_times (neg_ℤ k) (normal_of (flipped g))) (sym (neg-*ℤ-neg k g.nx)) (sym (neg-*ℤ-neg k g.ny)) (sym (neg-*ℤ-neg k g.nz)) (*ℤ_zero k ∙ sym (*ℤ_zero (neg_ℤ k)))
 
 turned_alike : (g h : Plane) → normal_of (flipped g) ≡ normal_of (flipped h) → normal_of g ≡ normal_of h
@@ -252,26 +250,14 @@ module _ (s p : Winding) (at from to : Point) (n : Vector) (through : direction_
       (λ zero. absurd (is.some_factor zero))
       (λ positive. there_ahead h is.lowest parts is.factor e positive not_ahead))
 
-  module _ (weight : from.w ≡ pos 1) (plane : Plane) (flag : Bool) (is : IsPlaneThrough at from to plane flag) where
-    itself : direction_of n ≡ point_times is.multiple.factor (normal_of (turned flag plane))
-    itself = through ∙ ap normal_of (whole_multiple at from to weight plane flag is) ∙ same_point (normal_of (scaled is.multiple.factor (turned flag plane))) (point_times is.multiple.factor (normal_of (turned flag plane))) refl refl refl (sym (*ℤ_zero is.multiple.factor))
+  module _ (plane : Plane) (is : IsLowestOf n plane) where
+    pub there_as_it_is : outlook.ahead ≡ false → (h : Plane) → PartsAlong s p plane h → Contains planes h
+    there_as_it_is not h parts =
+        there_ahead h (like_lowest h plane parts.normal is.lowest) (record { normal = refl; touches = parts.touches; parts = parts.parts }) is.factor
+        (is.multiple ∙ ap (point_times is.factor) (sym parts.normal)) is.positive not
 
-    there_itself : outlook.ahead ≡ false → (along h : Plane) → HasLowestNormal along → along ≡ turned flag plane → PartsAlong s p along h → Contains planes h
-    there_itself not along h lowest e parts =
-        there_ahead h (like_lowest h along parts.normal lowest) (record { normal = refl; touches = parts.touches; parts = parts.parts }) is.multiple.factor
-        (itself ∙ ap (point_times is.multiple.factor) (sym (parts.normal ∙ ap normal_of e))) is.multiple.positive not
-
-    there_turned : outlook.back ≡ false → (along h : Plane) → HasLowestNormal along → along ≡ flipped (turned flag plane) → PartsAlong s p along h → Contains planes h
-    there_turned not along h lowest e parts =
-        let positive = is.multiple.positive in
-        there_back h (like_lowest h along parts.normal lowest) (record { normal = refl; touches = parts.touches; parts = parts.parts }) (neg_ℤ is.multiple.factor)
-        (itself ∙ times_back is.multiple.factor (turned flag plane) ∙ ap (point_times (neg_ℤ is.multiple.factor)) (sym (parts.normal ∙ ap normal_of e))) (omega (arith, linear)) not
-
-  -- by the flag
-  pub there_as_it_is : from.w ≡ pos 1 → (plane : Plane) (flag may : Bool) → IsPlaneThrough at from to plane flag → HasLowestNormal plane → may ≡ cond flag outlook.ahead outlook.back → may ≡ false → (h : Plane) → PartsAlong s p plane h → Contains planes h
-  there_as_it_is weight plane true may is lowest e unset h parts = there_itself weight plane true is (sym e ∙ unset) plane h lowest refl parts
-  there_as_it_is weight plane false may is lowest e unset h parts = there_turned weight plane false is (sym e ∙ unset) plane h lowest (sym (flipped_twice plane)) parts
-
-  pub there_flipped : from.w ≡ pos 1 → (plane : Plane) (flag may : Bool) → IsPlaneThrough at from to plane flag → HasLowestNormal (flipped plane) → may ≡ cond (not flag) outlook.ahead outlook.back → may ≡ false → (h : Plane) → PartsAlong s p (flipped plane) h → Contains planes h
-  there_flipped weight plane true may is lowest e unset h parts = there_turned weight plane true is (sym e ∙ unset) (flipped plane) h lowest refl parts
-  there_flipped weight plane false may is lowest e unset h parts = there_itself weight plane false is (sym e ∙ unset) (flipped plane) h lowest refl parts
+    pub there_flipped : outlook.back ≡ false → (h : Plane) → PartsAlong s p (flipped plane) h → Contains planes h
+    there_flipped not h parts =
+        let positive = is.positive in
+        there_back h (like_lowest h (flipped plane) parts.normal (flipped_lowest_normal plane is.lowest)) (record { normal = refl; touches = parts.touches; parts = parts.parts }) (neg_ℤ is.factor)
+        (is.multiple ∙ times_back is.factor plane ∙ ap (point_times (neg_ℤ is.factor)) (sym parts.normal)) (omega (arith, linear)) not

@@ -9,3 +9,4 @@ pub mod LastCut
 pub mod Beam
 pub mod WholeCandidates
 pub mod Filled
+pub mod Lowest

@@ -12,6 +12,7 @@ ghost use Rattle.qm_separators.specs.inner.Found.{PartsAlong, AreCandidate, Sepa
 ghost use Rattle.qm_narrow.specs.inner.FoundPlanes.{AreAtLeastDistance, HasNormalAmong};
 ghost use Rattle.qm_narrow.specs.inner.WholeCandidates.{IsToldBy};
 
+use crate::lowest::lowest;
 use crate::normal::normal_through;
 use crate::outlook::Outlook;
 use crate::pair::Pair;
@@ -42,12 +43,12 @@ pub(crate) fn gain_through(
     if outlook.is_none() {
         return Ok(());
     }
-    match Plane::through_whole(at, from, to) {
-        Err(_) => Ok(()),
-        Ok((plane, front)) => {
+    match lowest(&normal) {
+        None => Ok(()),
+        Some(plane) => {
             let turned = plane.flipped();
-            gain_where(planes, pair, &plane, outlook.towards(front))?;
-            gain_where(planes, pair, &turned, outlook.towards(!front))?;
+            gain_where(planes, pair, &plane, outlook.ahead)?;
+            gain_where(planes, pair, &turned, outlook.back)?;
             Ok(())
         }
     }

@@ -11,6 +11,7 @@ mod crossing;
 mod edge;
 mod filled;
 pub mod laws;
+mod lowest;
 mod multiples;
 mod near;
 mod normal;

@@ -62,11 +62,4 @@ impl Outlook {
     {
         !self.ahead && !self.back
     }
-
-    /// Whether planes with the normal may, or those with its opposite.
-    pub(crate) fn towards(&self, front: bool) -> bool
-        ensures { result ≡ (if front then self.now.ahead else self.now.back) }
-    {
-        if front { self.ahead } else { self.back }
-    }
 }

@@ -6,8 +6,8 @@ use Rattle.qm_formats.specs.Layout.{Decoded, got, bad}
 use Rattle.qm_formats.specs.Fields.{AreBytes}
 use Rattle.qm_formats.specs.FileParts.{FileFaultKind}
 use Rattle.qm_formats.specs.TreeFile.{Section, TreeFile}
-use Rattle.qm_formats.specs.FileLayout.{read_file}
-use Rattle.qm_formats.proofs.WholeFile.{IsFileOf, read_file_found, read_file_again}
+use Rattle.qm_formats.specs.FileLayout.{read_file, IsFileOf}
+use Rattle.qm_formats.proofs.WholeFile.{read_file_found, read_file_again}
 use Rattle.qm_plain.specs.PlainFile.{IsPlainFile, ArePlainBytes, is_plain, plain_of, read_plain}
 
 no_rows_from : (rows : Option (List (List Bool))) → is_none rows ≡ true → rows ≡ None
@@ -52,7 +52,7 @@ module _ (bound : ℕ) (bytes : List ℕ) (file : TreeFile) where
       record {
         is_plain = subst (IsPlainFile bound) both.1 (plain_from_test bound found both.0);
         is_valid = content.valid;
-        bytes_are = content.bytes;
+        bytes_are = content.bytes_are;
         fits = content.fits;
       }
   by_reading (bad fault place) are is kept = absurd cc
@@ -66,7 +66,7 @@ module _ (bound : ℕ) (bytes : List ℕ) (file : TreeFile) where
   pub plain_again : ArePlainBytes bound bytes file → read_plain bound bytes ≡ Some file
   unfolding read_plain
   plain_again is =
-      ap (plain_of bound) (read_file_again bytes file (record { valid = is.is_valid; bytes = is.bytes_are; fits = is.fits }))
+      ap (plain_of bound) (read_file_again bytes file (record { valid = is.is_valid; bytes_are = is.bytes_are; fits = is.fits }))
       ∙ ap (λ (plain : Bool). cond plain (Some file) None) (test_from_plain bound file is.is_plain)
 
 -- so the answer says which plain file they are the bytes of, if any

@@ -1,3 +1,4 @@
+pub mod OneAnswer
 pub mod Written
 pub mod Answered
 pub mod NonzeroParts

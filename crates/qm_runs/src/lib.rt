@@ -7,7 +7,7 @@ mod reading;
 mod run_fault;
 mod writing;
 
-pub use laws::{first_fault, no_prefix, one_spelling};
+pub use laws::{first_fault, no_prefix, one_answer, one_spelling};
 pub use reading::{decode, decode_into};
 pub use run_fault::RunFault;
 pub use writing::encode;

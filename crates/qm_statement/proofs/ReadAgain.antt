@@ -8,5 +8,5 @@ use Rattle.qm_statement.specs.TreeBytes.{AreBytesOf}
 pub bytes_of_valid : (file : TreeFile) (bytes : List ℕ) → IsValidFile file → bytes ≡ file_bytes file → AreBytesOf file bytes
 bytes_of_valid file bytes valid is = record {
   exactly = is;
-  read_again = λ fits. read_file_again bytes file (record { valid = valid; bytes = is; fits = fits });
+  read_again = λ fits. read_file_again bytes file (record { valid = valid; bytes_are = is; fits = fits });
 }

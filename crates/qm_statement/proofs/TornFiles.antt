@@ -11,14 +11,13 @@ use Rattle.qm_surroundings.specs.WholeFiles.{HoldsTheSame, HoldsPrefix}
 use Rattle.qm_partition.specs.Tree.{Tree}
 use Rattle.qm_partition.specs.Counting.{leaves_of}
 use Rattle.qm_contacts.specs.NumberedLeaves.{is_numbered, numbered_leaves}
+use Rattle.qm_contacts.specs.OwnPortals.{HasOwnPortals}
 use Rattle.qm_contacts.specs.World.{World}
-use Rattle.qm_contacts.proofs.NumberingLeaves.{numbered_count}
 use Rattle.qm_formats.specs.FileLayout.{file_bytes, file_limit, read_file}
 use Rattle.qm_formats.specs.FileParts.{short, too_long}
 use Rattle.qm_formats.specs.Layout.{got, bad}
 use Rattle.qm_formats.specs.TreeFile.{TreeFile, IsValidFile}
 use Rattle.qm_formats.proofs.CutFiles.{prefix_cut_off}
-use Rattle.qm_formats.proofs.ValidFiles.{counts_at_most}
 use Rattle.qm_listing.specs.declared.listing.Listing.{Listing}
 use Rattle.qm_listing.specs.Grammar.{listing_text, read_listing}
 use Rattle.qm_listing.specs.WorldListing.{IsListingOf}
@@ -60,17 +59,13 @@ by_length part is =
     ]
 
 tree_refused : (file : TreeFile) (bytes : List ℕ) (count : ℕ) → IsValidFile file → bytes ≡ file_bytes file → count < length bytes → IsTreeRefused bytes (take count bytes)
-tree_refused file bytes count valid is less = λ small.
-    by_length (take count bytes)
-    (prefix_cut_off file (take count bytes) (drop count bytes) valid (subst (λ (b : List ℕ). length b < 2 ^ 62) is small) (sym is ∙ parted bytes count) (some_behind bytes count less))
+tree_refused file bytes count valid is less =
+    by_length (take count bytes) (prefix_cut_off file (take count bytes) (drop count bytes) valid (sym is ∙ parted bytes count) (some_behind bytes count less))
 
--- the listing of a world, where the tree file with its tree is not too long
-listing_refused : (file : TreeFile) (world : World) (listing : Listing) (text : List ℕ) (count : ℕ) → IsWorldOf file.tree world → IsListingOf world listing → length (file_bytes file) < 2 ^ 62 → text ≡ listing_text listing → length text < 2 ^ 62 → count < length text → (found : Listing) (end : ℕ) → read_listing (take count text) ≡ got found end → ⊥
-listing_refused file world listing text count is_world is_listing small is below less found end =
-    let leaves = leaves_of file.tree.shape in
-    let counted : length (numbered_leaves world.tree) ≡ count_by is_numbered leaves = ap (λ (tree : Tree). length (numbered_leaves tree)) is_world.is_tree ∙ numbered_count leaves 0 in
-    let few : listing.leaves < 10 ^ 18 = omega (arith, is_listing.leaves, counted, count_by-le-length is_numbered leaves, (counts_at_most file).1, small) in
-    let can = world_listing_stands world listing is_world.own_portals is_listing few (subst (λ (b : List ℕ). length b < 2 ^ 62) is below) in
+-- the listing of a world
+listing_refused : (world : World) (listing : Listing) (text : List ℕ) (count : ℕ) → HasOwnPortals world → IsListingOf world listing → text ≡ listing_text listing → count < length text → IsListingRefused text (take count text)
+listing_refused world listing text count own is_listing is less = λ fits found end.
+    let can = world_listing_stands world listing own is_listing (fits.leaves listing is) (subst (λ (b : List ℕ). length b < 2 ^ 62) is fits.bytes) in
     listing_cut_off listing (take count text) (drop count text) can (sym is ∙ parted text count) (some_behind text count less) found end
 
 module _ (before after : ShelfState) (name : List ℕ) (IsDue : List ℕ → Type 0) (IsRefused : List ℕ → List ℕ → Type 0) (refuses : (bytes : List ℕ) (count : ℕ) → IsDue bytes → count < length bytes → IsRefused bytes (take count bytes)) where
@@ -103,25 +98,20 @@ module _ (before after : ShelfState) (options : Options) (listed : Bool) (files 
   out_left : HoldsTheSame before after files.out_name ⊎ HoldsPart after files.out_name (IsDueInOut before its files) → IsNotTorn before after files.out_name (IsDueInOut before its files) IsTreeRefused
   out_left part = part_left before after files.out_name (IsDueInOut before its files) IsTreeRefused out_refuses part
 
-  abbrev IsRefused : List ℕ → List ℕ → Type 0
-  IsRefused = IsListingRefused (IsDueInOut before its files)
-
-  listed_refuses : (asked : Bool) (world : World) (file : TreeFile) (made : Option (List ℕ)) (bytes : List ℕ) (count : ℕ) → IsListed asked world made → made ≡ Some bytes → IsWorldOf file.tree world → length (file_bytes file) < 2 ^ 62 → length bytes < 2 ^ 62 → count < length bytes → (found : Listing) (end : ℕ) → read_listing (take count bytes) ≡ got found end → ⊥
-  listed_refuses true world file made bytes count listing there is_world small below less =
+  listed_refuses : (asked : Bool) (world : World) (made : Option (List ℕ)) (bytes : List ℕ) (count : ℕ) → IsListed asked world made → made ≡ Some bytes → HasOwnPortals world → count < length bytes → IsListingRefused bytes (take count bytes)
+  listed_refuses true world made bytes count listing there own less =
       let both : Some bytes ≡ Some (listing_text listing.0) = sym there ∙ listing.2 in
       let same : bytes ≡ listing_text listing.0 = cc in
-      listing_refused file world listing.0 bytes count is_world listing.1 small same below less
-  listed_refuses false world file made bytes count none there is_world small below less = absurd (let e = sym none ∙ there in cc)
+      listing_refused world listing.0 bytes count own listing.1 same less
+  listed_refuses false world made bytes count none there own less = absurd (let e = sym none ∙ there in cc)
 
-  text_refuses : (map : MapFile) (output : Output) (bytes : List ℕ) (count : ℕ) → IsOutputOf its map output → output.listing ≡ Some bytes → length output.file < 2 ^ 62 → length bytes < 2 ^ 62 → count < length bytes → (found : Listing) (end : ℕ) → read_listing (take count bytes) ≡ got found end → ⊥
+  text_refuses : (map : MapFile) (output : Output) (bytes : List ℕ) (count : ℕ) → IsOutputOf its map output → output.listing ≡ Some bytes → count < length bytes → IsListingRefused bytes (take count bytes)
   unfolding IsOutputOf
-  text_refuses map output bytes count (inl tight) there small below less =
-      listed_refuses listed tight.world tight.file output.listing bytes count tight.is_listed there tight.is_compiled.is_world (subst (λ (b : List ℕ). length b < 2 ^ 62) tight.is_file.exactly small) below less
-  text_refuses map output bytes count (inr leaks) there small below less = absurd (let e = sym leaks.is_not_listed ∙ there in cc)
+  text_refuses map output bytes count (inl tight) there less = listed_refuses listed tight.world output.listing bytes count tight.is_listed there tight.is_compiled.is_world.own_portals less
+  text_refuses map output bytes count (inr leaks) there less = absurd (let e = sym leaks.is_not_listed ∙ there in cc)
 
-  listing_refuses : (bytes : List ℕ) (count : ℕ) → IsDueInListing before its files bytes → count < length bytes → IsRefused bytes (take count bytes)
-  listing_refuses bytes count due less = λ beside below.
-      text_refuses due.1.map due.0 bytes count due.1.is_made due.2 (beside due.0.file (due.0, due.1, refl)) below less
+  listing_refuses : (bytes : List ℕ) (count : ℕ) → IsDueInListing before its files bytes → count < length bytes → IsListingRefused bytes (take count bytes)
+  listing_refuses bytes count due less = text_refuses due.1.map due.0 bytes count due.1.is_made due.2 less
 
   all_kept : IsKept before after → AreNotTorn before after its files
   all_kept kept = record { out = inl (kept files.out_name); listing = λ name asked. inl (kept name) }
@@ -140,22 +130,22 @@ module _ (before after : ShelfState) (options : Options) (listed : Bool) (files 
   one_name name other asked its_name = let same : Some name ≡ Some other = sym asked ∙ its_name in cc
 
   module _ (name : List ℕ) (unfinished : IsListingUnfinished before after its files name) where
-    listing_left : HoldsTheSame before after name ⊎ HoldsPrefix after name unfinished.listing → IsNotTorn before after name (IsDueInListing before its files) IsRefused
+    listing_left : HoldsTheSame before after name ⊎ HoldsPrefix after name unfinished.listing → IsNotTorn before after name (IsDueInListing before its files) IsListingRefused
     listing_left (inl same) = inl same
     listing_left (inr part) =
-        prefix_left before after name (IsDueInListing before its files) IsRefused listing_refuses unfinished.listing
+        prefix_left before after name (IsDueInListing before its files) IsListingRefused listing_refuses unfinished.listing
         (unfinished.output, unfinished.is_due, unfinished.is_listing) part
 
     listing_unfinished : AreNotTorn before after its files
     listing_unfinished = record {
       out = inr (inl (unfinished.output.file, (unfinished.output, unfinished.is_due, refl), unfinished.holds_out tells));
       listing = λ other asked.
-          subst (λ (n : List ℕ). IsNotTorn before after n (IsDueInListing before its files) IsRefused) (one_name name other unfinished.is_asked asked)
+          subst (λ (n : List ℕ). IsNotTorn before after n (IsDueInListing before its files) IsListingRefused) (one_name name other unfinished.is_asked asked)
           (listing_left (unfinished.part tells));
     }
 
   module _ {status : Status} {text : List ℕ} (w : IsWritten before after its files status text) where
-    made_listing : (listing : Option (List ℕ)) → w.output.listing ≡ listing → (name : List ℕ) → files.listing_name ≡ Some name → IsNotTorn before after name (IsDueInListing before its files) IsRefused
+    made_listing : (listing : Option (List ℕ)) → w.output.listing ≡ listing → (name : List ℕ) → files.listing_name ≡ Some name → IsNotTorn before after name (IsDueInListing before its files) IsListingRefused
     made_listing (Some bytes) is name asked = inr (inl (bytes, (w.output, w.is_due, is), w.holds_listing tells name bytes asked is))
     made_listing None is name asked =
         inl (subst (λ (listing : Option (List ℕ)). AreOthersKept before after files listing) is w.others name (apart name asked))

@@ -34,7 +34,8 @@ IsLineOfSightIn map tree s = IsLineOfSight (HasContents (drawn_solids map)) tree
 -- the map's drawn solids define there, but in filled leaves; and no chain of portals leads from one of these to an entity.
 -- Its portals lead each line of sight of the map from the first leaf to the last. Each of its numbered leaves has a row,
 -- coarse, or found in turns of as many workers as the options ask for, and the rows hold both ends of each line of sight. Its
--- sections are those that the options ask for. All of it can stand in a tree file, in the form in which maps are compiled.
+-- sections are those that the options ask for. All of it can stand in a tree file, which may be too long to be read, in the form in
+-- which maps are compiled.
 pub record IsCompiledWithoutLeak (map : MapFile) (options : Options) (file : TreeFile) (world : World) (summary : Summary) : Type 0 where
   pub tree : Tree
   pub origins : List Origin
@@ -54,7 +55,7 @@ pub record IsCompiledWithoutLeak (map : MapFile) (options : Options) (file : Tre
   pub is_valid : IsValidFile file
   pub is_summary : IsSummary map tree origins file.tree rows summary
 
--- An entity leaks: the first such entity, and its trail. The tree is the map's, without rows and sections, and can stand in a tree
+-- An entity leaks: the first such entity, and its trail. The tree is the map's, without rows and sections, and can stand in such a
 -- file, in the same form.
 pub record IsCompiledToLeak (map : MapFile) (file : TreeFile) (entity : ℕ) (trail : List ℕ) : Type 0 where
   pub origins : List Origin

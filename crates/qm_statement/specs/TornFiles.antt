@@ -5,7 +5,7 @@ use Rattle.qm_formats.specs.Layout.{got, bad}
 use Rattle.qm_formats.specs.FileParts.{short, too_long}
 use Rattle.qm_formats.specs.FileLayout.{file_limit, read_file}
 use Rattle.qm_listing.specs.declared.listing.Listing.{Listing}
-use Rattle.qm_listing.specs.Grammar.{read_listing}
+use Rattle.qm_listing.specs.Grammar.{listing_text, read_listing}
 use Rattle.qm_commands.specs.declared.map_command.MapCommand.{MapCommand}
 use Rattle.qm_commands.specs.declared.map_command.MapCommand.TheVariants.{Compile}
 use Rattle.qm_commands.specs.FileNames.{FileNames}
@@ -18,18 +18,19 @@ use Rattle.qm_statement.specs.UpgradeComesOf.{IsUpgradeDue}
 -- No tree file or listing is taken for whole that was cut off. Whatever the end of `compile` or `upgrade`, what it writes is as
 -- it was, is whole, or is refused by who reads it. Of `format` this says nothing, since the beginning of a text can be a map.
 
--- of the bytes of a tree file, of which there are fewer than 2^62, only some of the first are there: reading them gives that
--- they are too short, where they end, or that they are more than a file may have that is read
+-- only some of the first bytes of a tree file are there: reading them gives that they are too short, where they end, or that they
+-- are more than a file may have that is read
 abbrev pub IsTreeRefused : List ℕ → List ℕ → Type 0
-IsTreeRefused bytes part =
-    length bytes < 2 ^ 62 → (read_file part ≡ bad short (length part)) ⊎ (read_file part ≡ bad too_long file_limit)
+IsTreeRefused bytes part = (read_file part ≡ bad short (length part)) ⊎ (read_file part ≡ bad too_long file_limit)
 
--- of the text of a listing, of which there are fewer than 2^62 bytes, as there are of the tree file that is due beside it, only
--- some of the first are there: no listing is read
-abbrev pub IsListingRefused : (List ℕ → Type 0) → List ℕ → List ℕ → Type 0
-IsListingRefused IsDueBeside text part =
-    ((bytes : List ℕ) → IsDueBeside bytes → length bytes < 2 ^ 62) → length text < 2 ^ 62 →
-    (found : Listing) (end : ℕ) → read_listing part ≡ got found end → ⊥
+-- a listing whose counts its numbers of 18 digits can be: it has fewer than 10^18 leaves, and fewer than 2^62 bytes
+pub record HasShortNumbers (text : List ℕ) : Type 0 where
+  pub leaves : (listing : Listing) → text ≡ listing_text listing → listing.leaves < 10 ^ 18
+  pub bytes : length text < 2 ^ 62
+
+-- only some of the first bytes of the text of a listing are there: no listing is read
+abbrev pub IsListingRefused : List ℕ → List ℕ → Type 0
+IsListingRefused text part = HasShortNumbers text → (found : Listing) (end : ℕ) → read_listing part ≡ got found end → ⊥
 
 -- the file has all bytes that are due in it
 abbrev pub HoldsAll : ShelfState → List ℕ → (List ℕ → Type 0) → Type 0
@@ -51,7 +52,7 @@ IsDueInListing before command files bytes = (output : Output) × IsOutputOfText 
 -- so it is of OUT, and of FILE where a listing is asked for
 pub record AreNotTorn (before after : ShelfState) (command : MapCommand) (files : FileNames) : Type 0 where
   pub out : IsNotTorn before after files.out_name (IsDueInOut before command files) IsTreeRefused
-  pub listing : (name : List ℕ) → files.listing_name ≡ Some name → IsNotTorn before after name (IsDueInListing before command files) (IsListingRefused (IsDueInOut before command files))
+  pub listing : (name : List ℕ) → files.listing_name ≡ Some name → IsNotTorn before after name (IsDueInListing before command files) IsListingRefused
 
 -- what a command leaves that writes files which can be read again
 abbrev pub LeavesNoneTorn : Order → ShelfState → ShelfState → Type 0

@@ -39,11 +39,12 @@ returns c =
     let solids = solids_in c.args.book.now c.args.list.now in
     let book = c.args.book.now in
     let walk = cube_walk (goal.at.returns c).In_ok-walk in
-    let tree = IfOk-weaker c.tree_of_walk.result _ (IsTreeOf solids book) (λ tree is. is solids walk) c.tree_of_walk.ensures in
+    let tree = IfOk-weaker c.tree_of_walk.result _ (IsTreeOf solids book) (λ tree is. is solids walk) c.tree_of_walk.ensures.tree in
     record {
       tree = tree;
       points = IfOk-weaker c.tree_of_walk.result (IsTreeOf solids book) HasPoints (λ tree its. tree_has_points solids book c.requires.planes tree its) tree;
       contents =
           IfOk-weaker c.tree_of_walk.result (IsTreeOf solids book) (λ (t : Tree). GivesContents t solids)
           (λ tree its. gives_contents solids book tree c.requires.planes (book_has_planes book c.args.list.now c.requires) its) tree;
+      few = c.tree_of_walk.ensures.few;
     }

@@ -13,8 +13,8 @@ joined_of-requires c =
     (walk.shape, walk.visits_are, subst (λ (book : List Plane). IsWellMade (record { planes = book; shape = walk.shape })) (sym whole_book) made)
 
 -- what is made is the defined tree, for any solids of whose division this is the walk
-pub returns : goal.returns
-returns c = λ solids walk.
+pub returns-clause-tree : goal.returns-clause-tree
+returns-clause-tree c = λ solids walk.
     let whole_book = c.in_ok-planes.ensures.items ∙ c.planes.ensures.value in
     let made = c.in_ok-tree.ensures walk.shape walk.visits_are in
     let same = subst (λ (book : List Plane). c.in_ok-tree.tree ≡ record { planes = book; shape = joined walk.shape }) whole_book made in

@@ -14,7 +14,7 @@ returns-clause-built g c =
     let made = c.in_ok-list.ensures in
     let built = c.in_ok-tree.ensures in
     let entered = subst (λ (book : List Plane). AreEnteredInBook book (drawn_planes c.args.map.now) c.brushes.new.book) c.new-book.ensures made.entered in
-    rw (c.len.ensures, c.count_flat.ensures) (counted_map c.args.map.now c.brushes.new.book c.in_ok-list.list made.solids made.book c.in_ok-tree.tree entered built.tree built.contents built.points)
+    rw (c.len.ensures, c.count_flat.ensures) (counted_map c.args.map.now c.brushes.new.book c.in_ok-list.list made.solids made.book c.in_ok-tree.tree entered built.tree built.contents built.points built.few)
 
 pub returns-clause-kept : goal.returns-clause-kept
 returns-clause-kept g c =

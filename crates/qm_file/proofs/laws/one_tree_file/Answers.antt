@@ -6,7 +6,7 @@ use Rattle.qm_file.proofs.laws.one_tree_file.Goals as goal
 pub returns : goal.returns
 returns c = λ file other valid other_valid same fits.
     let bytes = file_bytes file in
-    let read = read_file_again bytes file (record { valid = valid; bytes = refl; fits = fits }) in
-    let read_other = read_file_again bytes other (record { valid = other_valid; bytes = same; fits = fits }) in
+    let read = read_file_again bytes file (record { valid = valid; bytes_are = refl; fits = fits }) in
+    let read_other = read_file_again bytes other (record { valid = other_valid; bytes_are = same; fits = fits }) in
     let e = sym read ∙ read_other in
     cc

@@ -39,4 +39,4 @@ returns c =
     model_of_brushes c.args.map.now c.args.world.now.tree c.args.entity c.brushes_of.new.book c.in_ok-list.list (brushes_are (goal.at.returns c).In_ok-list)
     c.in-Some.outline.extents c.in-Some.outline.touched.items c.in_ok-leaves-in-Some.leaves.items c.in_ok-tree-in-Some.tree c.plain_model.result (outline_is (goal.at.returns c).In-Some)
     (subst (λ (touched : List ℕ). AreSortedNumbers c.args.world.now.tree touched c.in_ok-leaves-in-Some.leaves.items) c.deref.ensures.value c.in_ok-leaves-in-Some.ensures)
-    c.in_ok-tree-in-Some.ensures.tree c.in_ok-tree-in-Some.ensures.contents c.plain_model.ensures.found c.plain_model.ensures.plain
+    c.in_ok-tree-in-Some.ensures.tree c.in_ok-tree-in-Some.ensures.contents c.in_ok-tree-in-Some.ensures.few c.plain_model.ensures.found c.plain_model.ensures.plain
