@@ -1,5 +1,5 @@
 -- Corners from a place on, one more of them; and the side that is entered.
-use Rattle.std.proofs.Common.{◌≡◌, ℕ, ◌+◌, ℤ, Bool, true, false, List, [], ◌∷◌, ◌++◌, length, sym, ap, subst, ◌∙◌, inl, inr}
+use Rattle.std.proofs.Common.{◌≡◌, ℕ, ◌+◌, ℤ, Bool, true, false, List, [], ◌∷◌, ◌++◌, length, Some, sym, ap, subst, ◌∙◌, inl, inr}
 use Rattle.std.specs.Prelude.{slice_get}
 use Rattle.std.proofs.lemmas.List.{length_push}
 use Rattle.qm_lists.proofs.Places.{slice_get-push_cases}
@@ -12,6 +12,12 @@ use Rattle.qm_face_file.proofs.PlanesOnWalls.{is_same_plane, same_from_test, tes
 use Rattle.qm_face_corners.specs.inner.CornerParts.{AreSomeCorners}
 
 module _ (planes : List Plane) (w : Winding) (backward : Bool) (first : ℕ) where
+  pub no_corners : (corners : List (List ℤ)) → corners ≡ [] → AreSomeCorners planes w backward first 0 corners
+  no_corners corners none = record {
+    counted = ap length none;
+    are_corners = λ i corner there. let nothing : List (List ℤ) = [] in absurd (let e : slice_get nothing i ≡ Some corner = sym (ap (λ (cs : List (List ℤ)). slice_get cs i) none) ∙ there in cc);
+  }
+
   pub one_corner_more : (corners more : List (List ℤ)) (count place : ℕ) (next : List ℤ) →
       AreSomeCorners planes w backward first count corners → place ≡ place_on backward (length w.edges) first count → IsNumberedCorner planes world_extent w backward place next → more ≡ corners ++ next ∷ [] →
       AreSomeCorners planes w backward first (count + 1) more

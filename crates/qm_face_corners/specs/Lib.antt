@@ -1,2 +1,3 @@
 pub mod NamedPlanes
+pub mod TurnedCorners
 pub mod inner

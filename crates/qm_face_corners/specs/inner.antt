@@ -1,1 +1,2 @@
 pub mod CornerParts
+pub mod KeptNumbers

@@ -1,14 +1,14 @@
-ghost use Rattle.std.specs.Prelude.{◌≡◌, ◌<◌, length, IfOk};
+ghost use Rattle.std.specs.Prelude.{◌≡◌, ◌<◌, length, IfOk, OnOk};
 ghost use Rattle.qm_space.specs.Bounds.{world_extent};
 ghost use Rattle.qm_wind.specs.Entered.{IsPane};
 ghost use Rattle.qm_convex.specs.Rotation.{place_after};
 ghost use Rattle.qm_listing.specs.WorldListing.{place_back, IsFirstCorner};
 ghost use Rattle.qm_face_layout.specs.FaceCorners.{place_on, IsNumberedCorner, AreNumberedCorners};
+ghost use Rattle.qm_face_layout.specs.PlaneNumbers.{IsPlaneNumber};
 ghost use Rattle.qm_face_corners.specs.NamedPlanes.{HasNamedPlanes};
 ghost use Rattle.qm_face_corners.specs.inner.CornerParts.{AreSomeCorners};
 
-use qm_face_file::plane_number;
-use qm_geom::PlaneBook;
+use crate::plane_numbers::PlaneNumbers;
 use qm_lists::Items;
 use qm_prt::first_corner_of;
 use qm_wind::{Pane, Winding};
@@ -19,16 +19,17 @@ use std::alloc::{AllocError, Global};
 pub fn numbered_corners(
     alloc: Global,
     pane: &Pane,
-    book: &PlaneBook,
+    numbers: &mut PlaneNumbers<'_>,
 ) -> Result<Items<[i64; 3]>, AllocError>
     requires pane { IsPane pane.now }
-    requires named { HasNamedPlanes book.now pane.now.winding }
-    ensures { IfOk result (AreNumberedCorners book.now world_extent pane.now.winding pane.now.into) }
+    requires named { HasNamedPlanes numbers.old pane.now.winding }
+    ensures corners { IfOk result (AreNumberedCorners numbers.old world_extent pane.now.winding pane.now.into) }
+    ensures same { OnOk result (numbers.new ≡ numbers.old) }
 {
     let winding = &pane.winding;
     let in_front = pane.into == winding.plane();
     let first = first_corner_of(alloc, winding)?;
-    let corners = corners_from(alloc, winding, book, in_front, first)?;
+    let corners = corners_from(alloc, winding, numbers, in_front, first)?;
     Ok(Items::from_vec(corners))
 }
 
@@ -36,32 +37,41 @@ pub fn numbered_corners(
 fn corners_from(
     alloc: Global,
     winding: &Winding,
-    book: &PlaneBook,
+    numbers: &mut PlaneNumbers<'_>,
     backward: bool,
     first: usize,
 ) -> Result<Vec<[i64; 3]>, AllocError>
-    requires named { HasNamedPlanes book.now winding.now }
+    requires named { HasNamedPlanes numbers.old winding.now }
     requires within { first < length winding.now.edges }
-    ensures { IfOk result (λ corners. AreSomeCorners book.now winding.now backward first (length winding.now.edges) corners.items) }
+    ensures corners { IfOk result (λ corners. AreSomeCorners numbers.old winding.now backward first (length winding.now.edges) corners.items) }
+    ensures same { OnOk result (numbers.new ≡ numbers.old) }
 {
     let count = winding.len();
+    let own = numbers.number(&winding.plane());
     let mut corners = Vec::with_capacity(alloc, count)?;
     for i in 0..count {
         let place = place_on(count, backward, first, i);
-        corners.push(corner_numbers(winding, book, backward, place))?;
+        corners.push(corner_numbers(winding, numbers, backward, place, own))?;
     }
     Ok(corners)
 }
 
-/// A corner of a winding by the numbers of its planes, where corners go backward or not.
-fn corner_numbers(winding: &Winding, book: &PlaneBook, backward: bool, place: usize) -> [i64; 3]
-    requires named { HasNamedPlanes book.now winding.now }
+/// A corner of a winding by the numbers of its planes, the winding's own first, where corners go backward or not.
+fn corner_numbers(
+    winding: &Winding,
+    numbers: &mut PlaneNumbers<'_>,
+    backward: bool,
+    place: usize,
+    own: i64,
+) -> [i64; 3]
+    requires named { HasNamedPlanes numbers.old winding.now }
     requires within { place < length winding.now.edges }
-    ensures { IsNumberedCorner book.now world_extent winding.now backward place result }
+    requires own { IsPlaneNumber numbers.old world_extent winding.now.plane own }
+    ensures corner { IsNumberedCorner numbers.old world_extent winding.now backward place result }
+    ensures same { numbers.new ≡ numbers.old }
 {
-    let own = plane_number(&winding.plane(), book);
-    let ahead = plane_number(&winding.edge(place), book);
-    let behind = plane_number(&winding.edges()[place], book);
+    let ahead = numbers.number(&winding.edge(place));
+    let behind = numbers.number(&winding.edges()[place]);
     if backward {
         [own, ahead, behind]
     } else {

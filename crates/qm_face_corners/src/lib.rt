@@ -2,5 +2,10 @@
 #![tactic(auto)]
 
 mod corners;
+mod kept_number;
+mod laws;
+mod plane_numbers;
 
 pub use corners::numbered_corners;
+pub use laws::corners_turn;
+pub use plane_numbers::PlaneNumbers;

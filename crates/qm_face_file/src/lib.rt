@@ -14,7 +14,7 @@ mod reading;
 mod writing;
 
 pub use faces_fault::FacesFault;
-pub use laws::first_faces_fault;
+pub use laws::{exact_faces_layout, first_faces_fault, own_faces_bytes, read_face_section};
 pub use named_planes::named_plane;
 pub use numbering::plane_number;
 pub use qm_face_layout::FaceRecord;

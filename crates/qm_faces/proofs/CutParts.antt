@@ -14,7 +14,7 @@ use Rattle.qm_convex.specs.Cut.{IsPartInFront}
 use Rattle.qm_convex.proofs.Cutting.{whole_is_part}
 use Rattle.qm_solids.specs.declared.face.FaceRef.{FaceRef}
 use Rattle.qm_solids.specs.Outward.{outward_of}
-use Rattle.qm_solids.specs.InBook.{BookSolid}
+use Rattle.qm_solids.specs.InBook.{BookSolid, solid_at}
 use Rattle.qm_surface.specs.Owner.{FaceOwner}
 use Rattle.qm_surface.specs.Cutting.{cutters, IsCarved, behind_all, goes_on, ends, AreCarved, none, more}
 use Rattle.qm_surface.specs.Surface.{FacePiece, piece_of, AreOwnedPieces, all_cut, cut_by}
@@ -160,6 +160,20 @@ pub carved_by_more : (planes : List Plane) (n : ℕ) (faces : List FaceRef) (res
 carved_by_more planes n faces rest left new_left inners w inner are by =
     subst (λ (ws : List Winding). AreCarved (cutters planes n faces) (rest ++ w ∷ []) ws (inners ++ option_to_list inner)) (sym by.new_is)
     (carved_more (cutters planes n faces) rest left inners w by.added inner are by.carved)
+
+-- the only part is cut for an owner: what it leaves takes its place
+pub cut_one_part : (planes : List Plane) (solids : List BookSolid) (boundary : Boundary) (owner : FaceOwner) (w : Winding) (rest empty left : List Winding) (inner : Option Winding) (old new : List FacePiece) →
+    rest ≡ w ∷ [] → empty ≡ [] → IsCarvedBy planes boundary.plane (solid_at solids owner.brush).faces w inner empty left →
+    new ≡ old ++ map (piece_of boundary.leaf boundary.side owner) (option_to_list inner) → IsCutFor planes solids boundary owner rest left old new
+cut_one_part planes solids boundary owner w rest empty left inner old new only nothing by new_is =
+    let gs = cutters planes boundary.plane (solid_at solids owner.brush).faces in
+    let left_is : left ≡ by.added = by.new_is ∙ ap (λ (ws : List Winding). ws ++ by.added) nothing in
+    record {
+      inners = option_to_list inner;
+      carved = subst (λ (ws : List Winding). AreCarved gs ws left (option_to_list inner)) (sym only)
+          (subst (λ (ws : List Winding). AreCarved gs (w ∷ []) ws (option_to_list inner)) (sym left_is) (carved_one gs w by.added inner by.carved));
+      new_is = new_is;
+    }
 
 -- ---- all owners
 

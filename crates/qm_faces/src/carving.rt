@@ -50,7 +50,7 @@ fn cut_by_face(
 }
 
 /// Cuts a part by the faces of a brush: what is in front of one is left, and what is behind all of them is answered.
-fn carve(
+pub(crate) fn carve(
     part: Part,
     faces: &[FaceRef],
     plane: u32,

@@ -1,7 +1,5 @@
 //! The section of faces.
 
-//! The section of faces.
-
 ghost use Rattle.std.specs.Prelude.{◌≡◌, ◌<◌, ◌^◌, All, IfOk, length};
 ghost use Rattle.qm_solids.specs.InBook.{solids_in, IsBookOf};
 ghost use Rattle.qm_solid_tree.specs.GivesContents.{GivesContentsOrIsFilled};

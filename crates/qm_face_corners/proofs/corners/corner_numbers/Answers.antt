@@ -5,11 +5,12 @@ use Rattle.qm_space.specs.Plane.{Plane}
 use Rattle.qm_face_layout.specs.PlaneNumbers.{IsNamedPlane}
 use Rattle.qm_face_corners.proofs.corners.corner_numbers.Goals as goal
 
-pub plane_number-ahead-requires : goal.plane_number-ahead-requires
-plane_number-ahead-requires c = All-contains (IsNamedPlane c.args.book.now world_extent) c.args.winding.now.edges c.edge.result c.requires.named.edges c.edge.ensures.edge
+pub number-ahead-requires : goal.number-ahead-requires
+number-ahead-requires c = All-contains (IsNamedPlane c.args.numbers.now world_extent) c.args.winding.now.edges c.edge.result c.requires.named.edges c.edge.ensures.edge
 
-pub plane_number-behind-requires : goal.plane_number-behind-requires
-plane_number-behind-requires c =
+pub number-behind-requires : goal.number-behind-requires
+number-behind-requires c =
     let edge = c.index-edges-place.result in
     let same = c.index-edges-place.is ∙ ap (λ (edges : List Plane). get_or edges c.args.place edge) c.edges.ensures in
-    subst (IsNamedPlane c.args.book.now world_extent) (sym same) (c.requires.named.edges c.args.place edge c.requires.within)
+    subst (λ (planes : List Plane). IsNamedPlane planes world_extent edge) (sym c.number-ahead.ensures.same)
+    (subst (IsNamedPlane c.args.numbers.now world_extent) (sym same) (c.requires.named.edges c.args.place edge c.requires.within))

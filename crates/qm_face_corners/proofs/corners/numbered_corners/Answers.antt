@@ -4,11 +4,11 @@ use Rattle.qm_face_file.proofs.PlanesOnWalls.{is_same_plane}
 use Rattle.qm_face_corners.proofs.CornersFrom.{entered}
 use Rattle.qm_face_corners.proofs.corners.numbered_corners.Goals as goal
 
-pub returns : goal.returns
-returns c =
+pub returns-clause-corners : goal.returns-clause-corners
+returns-clause-corners c =
     let pane = c.args.pane.now in
     let test = c.eq-in_front.ensures ∙ ap (λ (plane : Plane). is_same_plane pane.into plane) c.plane.ensures in
-    let corners = c.in_ok-corners.ensures in
+    let corners = c.in_ok-corners.ensures.corners in
     rw c.from_vec.ensures (
     record {
       in_front = c.eq-in_front.result;

@@ -1,4 +1,4 @@
-use Rattle.std.proofs.Common.{ℕ, pos, negsuc, [], Some, rules, w64, inl, inr}
+use Rattle.std.proofs.Common.{ℕ, pos, negsuc, [], rules, w64, inl, inr}
 use Rattle.std.specs.Prelude.{FitsSigned}
 use Rattle.std.proofs.lemmas.Int.{to_z-of_z}
 use Rattle.qm_space.specs.Bounds.{world_extent}
