@@ -299,7 +299,6 @@ answers_as_the_pages_show() {
     done <<'END'
 EDITORS.md|inspect courtyard.tree at=-208,-128,24 at=64,0,24
 EDITORS.md|inspect courtyard.tree sees=53,27 sees=53,0
-EDITORS.md|inspect courtyard.tree at=-208,-128,24
 END
     # with clip hulls, of which the page shows both lines before the answers
     grep -qxF '    ./qmapc compile samples/courtyard.map courtyard.tree --hulls' docs/EDITORS.md || return 1

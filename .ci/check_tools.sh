@@ -755,5 +755,5 @@ check "tools: a text that is no map is refused" says_what_is_no_map
 check "tools: faces are listed as the program refuses them, and what is named instead is taken" lists_faces_as_the_program_refuses_them
 check "tools: all faces that are refused are listed" lists_all_faces
 check "tools: points that are near enough give no plane that is too fine" finds_no_plane_too_fine_near_by
-check_fully "tools: the C of docs/TREEFILE.md finds leaves, rows, hulls and models" agrees_with_the_page_on_tree_files
+check_fully "tools: docs/look.c finds leaves, rows, hulls, models and faces" agrees_with_the_page_on_tree_files
 check_fully "tools: docs/qmtree.h finds in tree files, damaged ones too, what the slow reader finds" loads_tree_files_in_c

@@ -1,8 +1,8 @@
 #!/usr/bin/env python3
-"""Takes the pieces of C from docs/TREEFILE.md, compiles them as one program, and compares what it prints with what
-`tools/treefile.py` reads: the leaves of points, rows, clip hulls, what is met on segments, which models are drawn, and faces. And the
-bytes that the page shows are those of samples/cube.map, and those with which the models of samples/room.map and the faces of
-samples/cube.map begin.
+"""Compiles docs/look.c, and compares what it prints with what `tools/treefile.py` reads: the leaves of points, rows, clip hulls, what
+is met on segments, which models are drawn, and faces. The piece of C of docs/TREEFILE.md stands in that program. And the bytes that
+the page shows are those of samples/cube.map, and those with which the models of samples/room.map and the faces of samples/cube.map
+begin.
 
     .ci/check_treefile_page.py FOLDER TREE..
 
@@ -24,21 +24,19 @@ import made_sections
 from made_trees import CODES, cube, long_tree, random_tree, written
 import treefile
 
-PAGE = Path("docs/TREEFILE.md")
-PIECES = 6
+PAGE, SOURCE = Path("docs/TREEFILE.md"), Path("docs/look.c")
 POINTS = 6
 # sections behind those of clip hulls
 SECTIONS = [(7, b""), (2 ** 32 - 1, bytes(300))]
 
 
 def compiled(folder):
-    """The program that the page's pieces are."""
+    """The program of which the page shows a piece."""
     pieces = re.findall(r"^```c\n(.*?)^```$", PAGE.read_text(), re.M | re.S)
-    if len(pieces) != PIECES:
-        sys.exit(f"{PAGE} has {len(pieces)} pieces of C, and should have {PIECES}")
-    source, program = folder / "look.c", folder / "look"
-    source.write_text("\n".join(pieces))
-    subprocess.run(["cc", "-std=c99", "-O1", *STRICT, "-o", program, source], check=True)
+    if not pieces or not all(piece in SOURCE.read_text() for piece in pieces):
+        sys.exit(f"{PAGE} shows no C, or C that is not in {SOURCE}")
+    program = folder / "look"
+    subprocess.run(["cc", "-std=c99", "-O1", *STRICT, "-o", program, SOURCE], check=True)
     return program
 
 
@@ -76,11 +74,12 @@ def wanted(tree, models, hulls, point, end):
         yield "models: no part"
     own = None if tree.rows is None else what.number
     held = list(range(tree.numbered())) if own is None else tree.row(own)
-    beside, through = beyond(tree, held)
-    yield beside and " ".join(["through:", *map(str, sorted(through - set(held)))])
-    yield " ".join([f"row {-1 if what.number is None else what.number}:", *map(str, held)])
-    yield beside and " ".join(["beside:", *map(str, sorted(beside - set(held)))])
-    held = beside or held
+    touching, through = beyond(tree, held)
+    yield f"number {-1 if what.number is None else what.number}"
+    yield " ".join(["row:", *map(str, held)])
+    yield touching and " ".join(["touching:", *map(str, sorted(touching - set(held)))])
+    yield touching and " ".join(["through:", *map(str, sorted(through - set(held)))])
+    held = touching or held
     for model in models or ():
         is_drawn = any(leaf in held for leaf in model.leaves)
         yield (f"model {model.entity}: {'drawn' if is_drawn else 'not drawn'}, "
@@ -201,14 +200,14 @@ def fault(program, folder, tree, points):
                                             check=True).stdout.splitlines() for many in (3, 6, 9))
         due = list(wanted(tree, models, hulls, point, point))
         if not fits(alone, due):
-            return f"of {words[:3]} it prints {alone!r}, and should print {due!r}"
+            return f"for {words[:3]} it prints {alone!r}, and should print {due!r}"
         due = [*wanted(tree, models, hulls, point, end), *along(tree, point, end)]
         if not fits(both, due):
-            return f"of {words[:6]} it prints {both!r}, and should print {due!r}"
+            return f"for {words[:6]} it prints {both!r}, and should print {due!r}"
         told = {int(line.removeprefix("drawn if moved: ")) for line in more[len(both):]}
         seen = moved(tree, models, point, way)
         if more[:len(both)] != both or not seen <= told:
-            return f"of {words} it prints {more!r}, and {seen} are drawn if they have moved"
+            return f"for {words} it prints {more!r}, and {seen} are drawn if they have moved"
     return None
 
 
@@ -239,7 +238,7 @@ def main():
         points = [place(rng, rng.choice((600, 2000, tree.bound))) for _ in range(POINTS)]
         found = fault(program, folder, tree, points)
         if found:
-            sys.exit(f"tree {number}: the C of {PAGE}: {found}")
+            sys.exit(f"tree {number}: {SOURCE}: {found}")
 
 
 main()

@@ -2,11 +2,12 @@
    from there, what a segment meets, where a player's box fits, which doors and lifts to draw, and the faces of the level.
 
    One file, for C99 and C++11, that needs the C library alone: put it beside your sources and include it. docs/TREEFILE.md
-   describes the tree file, and shows each of these functions in use.
+   describes the tree file, and docs/look.c shows most of these functions in use.
 
-   qm_load checks the whole file, so whatever bytes you give it, no function below reads outside of them. Leaves and numbers that you
-   pass have to be such as the functions return, but where something else is said. The bytes stay yours: keep them as long as you use
-   the tree, its hulls, its models and its faces. Nothing is changed by asking, so several threads may ask.
+   qm_load checks the whole file, so whatever bytes you give it, no function below reads outside of them. Pass only leaves and numbers that
+   these functions returned, unless stated otherwise; qm_row, qm_sees and qm_holds also take -1, the number of a solid leaf. The bytes
+   stay yours: keep them as long as you use the tree, its hulls, its models and its faces. Asking changes nothing, so several threads
+   may ask.
 
 MIT License
 
@@ -55,7 +56,7 @@ typedef struct {
     int64_t *numbers;                           /* the number of each leaf, or -1 */
 } qm_tree;
 
-/* a part of a segment: the leaf in which it lies, and the part of the whole segment, from 0 to 1, at which it ends */
+/* a piece of a segment: its leaf, and where it ends, from 0 (the start of the segment) to 1 (its end) */
 typedef struct {
     int64_t leaf;
     double to;
@@ -94,14 +95,14 @@ typedef struct {
 /* which numbered leaves touch each other and hold different contents, such as air above water. Rows do not know these */
 typedef struct {
     int64_t *first;                             /* where the leaves that touch a numbered leaf begin in `others`, and, at last, their end */
-    int64_t *others;                            /* numbers of leaves, in no order */
+    int64_t *others;                            /* numbers of leaves, in no order; one may repeat */
 } qm_contacts;
 
 /* Loading. A function that returns a text returns NULL if all is well; else the text says why. */
 
 /* loads a whole file. What is no tree file is refused by its first fault: "short", "magic", "counts", "header form", "plane form",
    "node order", "leaf form", "row form", "section form", "trailing" or "too long", and `place`, unless it is NULL, gets the offset of
-   that fault. "no memory" has no place */
+   that fault. "no memory" has no place. After a fault there is nothing to free; a tree that is loaded is freed once */
 static inline const char *qm_load(qm_tree *tree, const void *bytes, uint64_t size, uint64_t *place);
 static inline void qm_free(qm_tree *tree);
 
@@ -123,12 +124,12 @@ static inline const char *qm_read_models(const unsigned char *bytes, uint64_t si
 /* loads all faces, with the same answers; and of bytes by themselves, as a section of this tree */
 static inline const char *qm_load_faces(const qm_tree *tree, qm_faces *faces);
 static inline void qm_free_faces(qm_faces *faces);
+static inline const char *qm_read_faces(const unsigned char *bytes, uint64_t size, const qm_tree *tree, qm_faces *faces, uint64_t *place);
 
 /* finds all contacts of leaves with different contents, once for a level, or says "no memory". Contacts narrower than a
    hundred-thousandth of a unit are left out */
 static inline const char *qm_find_contacts(const qm_tree *tree, qm_contacts *contacts);
 static inline void qm_free_contacts(qm_contacts *contacts);
-static inline const char *qm_read_faces(const unsigned char *bytes, uint64_t size, const qm_tree *tree, qm_faces *faces, uint64_t *place);
 
 /* Asking. A point on the plane of a node counts to its front. Coordinates are double, which is exact for whole ones, and for quarters
    and the like; next to a slanted plane other points can come out on its wrong side. */
@@ -147,23 +148,23 @@ static inline int qm_contents_at(const qm_tree *tree, const double point[3]);
 /* how many bytes a row has when it is decoded */
 static inline size_t qm_row_size(const qm_tree *tree);
 
-/* decodes the row of a numbered leaf; 0 if there is no such row, as for the number -1, and then `row` is as it was */
+/* decodes the row of a numbered leaf; 0 if there is no such row, as for the number -1; `row` is then unchanged */
 static inline int qm_row(const qm_tree *tree, int64_t number, unsigned char *row);
 
-/* whether a decoded row holds a numbered leaf of its tree */
+/* whether a decoded row holds a numbered leaf of its tree; 0 for the number -1 */
 static inline int qm_holds(const unsigned char *row, int64_t number);
 
 /* whether the row of one numbered leaf holds another; 0 if there is no such row or leaf */
 static inline int qm_sees(const qm_tree *tree, int64_t number, int64_t other);
 
-/* adds to `all`, as large as a decoded row and another one, the leaves of other contents that touch those of a decoded row: the surface
-   of water as seen from the air */
+/* adds to `all`, which has the size of a row and is not `row` itself, the leaves of other contents that touch those of a decoded row:
+   the surface of water as seen from the air */
 static inline void qm_add_touching(const qm_tree *tree, const qm_contacts *contacts, const unsigned char *row, unsigned char *all);
 
 /* the same, and all that the rows of these leaves hold: what may be seen through that surface */
 static inline void qm_add_through(const qm_tree *tree, const qm_contacts *contacts, const unsigned char *row, unsigned char *all);
 
-/* the span of a segment that begins at a part of it, from 0 on: begin at 0, and go on at `to` while that is less than 1 */
+/* the span of a segment that begins at `at`, a fraction of the segment: start with 0, and pass its `to` on until that is 1 */
 static inline qm_span qm_span_at(const qm_tree *tree, const double from[3], const double to[3], double at);
 
 /* the part of a segment at which it comes into something solid, or 1 if it does not */
@@ -175,7 +176,8 @@ static inline const qm_model *qm_model_of(const qm_models *models, uint64_t enti
 /* the numbers of the leaves that a model touches, by their places from 0 on: they ascend */
 static inline int64_t qm_touched(const qm_model *model, int64_t at);
 
-/* whether a decoded row holds a leaf that a model touches: if not, the model need not be drawn, at its place in the map */
+/* whether a decoded row holds a leaf that a model touches: if not, the model need not be drawn, at its place in the map. 0
+   for a model inside walls, which touches none */
 static inline int qm_is_drawn(const qm_model *model, const unsigned char *row);
 
 /* whether a decoded row holds a leaf that a box touches, such as that of a model that has moved. Also 1 in a tree so deep, more than
@@ -590,7 +592,7 @@ static inline double qm_meeting(int64_t planes[3][4], double *point) {
     weight = qm_sum(planes[0], across[0]);
     for (axis = 0; point && axis < 3; axis++) {
         for (at = 0; at < 3; at++) parts[at] = across[at][axis];
-        point[axis] = qm_sum(ends, parts) / weight;
+        point[axis] = qm_sum(ends, parts) / weight + 0.0;
     }
     return weight;
 }
@@ -726,7 +728,7 @@ static inline int qm_row(const qm_tree *tree, int64_t number, unsigned char *row
     return 1;
 }
 
-static inline int qm_holds(const unsigned char *row, int64_t number) { return row[number >> 3] >> (number & 7) & 1; }
+static inline int qm_holds(const unsigned char *row, int64_t number) { return number >= 0 && (row[number >> 3] >> (number & 7) & 1); }
 
 static inline int qm_sees(const qm_tree *tree, int64_t number, int64_t other) {
     const unsigned char *at;

@@ -43,7 +43,9 @@ def bar_pictures():
 
 
 def compile_code(folder):
-    """Compiles the game's code into a folder. Ends the program where the compiler refuses it."""
+    """Compiles the game's code into a folder. Ends the program where there is no compiler, or where it refuses the code."""
+    if not shutil.which("fteqcc"):
+        sys.exit("make_game: fteqcc is not here, which compiles the game's code")
     with tempfile.TemporaryDirectory() as copy:
         shutil.copytree(Path(__file__).resolve().parent / "qc", Path(copy) / "qc")
         done = subprocess.run(["fteqcc", "-O0"], cwd=Path(copy) / "qc", stdout=subprocess.PIPE, stderr=subprocess.STDOUT, text=True)
