@@ -1,4 +1,4 @@
-"""Clip hulls: where the middle of a moving box can be, so that the box meets no brush that is in its way.
+"""Clip hulls: where the origin of a moving box can be, so that the box meets no brush that is in its way.
 
 Such a brush is solid there with its faces moved outward by the box. A hull is found in the tree file, or made in clip_cells.py. Where
 no open leaf of the level is near, all is solid: nobody comes there. So the outside of a sealed level takes no room. A node is its
