@@ -119,7 +119,7 @@ def view_of(words):
 
 
 def begin_of(words, tree, line, marks):
-    """Where a page begins and where one looks, each None where nothing asked for says so: at the place that is asked for; else at
+    """Where a page begins and where you look, each None if nothing asked for says so: at the place that is asked for; else at
     the start of the map; else at the beginning of the leak line."""
     if words.at:
         return inside(words, tree, words.at), None

@@ -1,4 +1,4 @@
-"""The page of a level: one HTML file in which one walks through it, with all that the page needs inside.
+"""The page of a level: one HTML file in which you walk through it, with all that the page needs inside.
 
 What is written of the level for the scripts, numbers as bytes in base64, little-endian:
 planes (four doubles each), nodes (plane, front, back: 4 bytes, signed), leaves (a byte: the place of what fills it in `FILLS`),
@@ -29,7 +29,7 @@ FOLDER = Path(__file__).resolve().parent / "web"
 SCRIPTS = ["level.js", "walking.js", "colliding.js", "models.js", "drawing.js", "marks.js", "aiming.js", "entities.js", "plan.js", "main.js"]
 FILLS = ["empty", "solid", "water", "slime", "lava", "sky", FILLED]
 KINDS = list(colours.KINDS)
-# how far ahead of a place the point is to which one looks
+# how far ahead of a place the point is at which you look
 AHEAD = 64
 
 
@@ -128,7 +128,7 @@ def entities_of(marks):
 
 
 def ahead(place, angle):
-    """A point that is straight ahead of a place for one who looks at an angle, in degrees."""
+    """A point that is straight ahead of a place if you look at an angle, in degrees."""
     x, y, z = place
     return float(x) + AHEAD * cos(radians(angle)), float(y) + AHEAD * sin(radians(angle)), z
 

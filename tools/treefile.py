@@ -10,8 +10,8 @@
     print([[tree.corner(numbers) for numbers in piece.corners] for piece in tree.faces()])
     print(tree.contacts()[0])
 
-docs/TREEFILE.md describes the file, of which both versions are read. This module needs nothing but the standard library, and
-may be copied. It refuses what is no tree file by the first fault in the order of the file, with the place of its byte.
+docs/TREEFILE.md describes the file; both versions are read. This module needs nothing but the standard library, and may be
+copied. If a file is no tree file, it raises the first fault in the order of the file, with the place of its byte.
 """
 
 from fractions import Fraction

@@ -1,4 +1,4 @@
-// What one looks at: a crosshair in the middle of the view, and below it each change of contents as far as something solid.
+// What you look at: a crosshair in the middle of the view, and below it each change of contents as far as something solid.
 
 const ARM = 9, BELOW = 16;
 

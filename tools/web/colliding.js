@@ -1,11 +1,11 @@
-// What stops one who walks as a player does. In clip hull 1 the box of a player is a point, which is below the eyes; one comes as far as
-// nothing solid is met there, and then slides along it.
+// What stops you, as it stops a player. In clip hull 1 the box of a player is a point, which is below the eyes; you come as far as
+// this point meets nothing solid, and then slide along it.
 
 const EYES = 22, GAP = 1 / 32, MOST_BUMPS = 4, NEARLY = 1e-9;
 
 function isInTheWay(eye) { return hull.solid[leafAt(moved(eye, [0, 0, 1], -EYES), hull)] === 1; }
 
-// at which part of a way something solid is met, and the direction away from that; or null where nothing is, or one stands in it
+// at which fraction of a way something solid is met, and the direction away from that; or null if nothing is, or you stand in it
 function struck(place, way) {
     const found = passed(place, moved(place, way, 1), hull), [, part, node] = found.find(([leaf]) => hull.solid[leaf]) || [];
     if (part === undefined || hull.solid[found[0][0]]) return null;
@@ -14,7 +14,7 @@ function struck(place, way) {
     return { part, normal: normal.map(number => turned * number) };
 }
 
-// where one comes from a place of the eyes by a way
+// where a way takes you from a place of the eyes
 function stopped(eye, way) {
     let place = moved(eye, [0, 0, 1], -EYES), left = way;
     const met = [];

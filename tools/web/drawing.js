@@ -2,7 +2,7 @@
 
 const NEAR = 2, FAR = 4 * LEVEL.bound, BAND = 1.5, VERTEX = 20;
 
-// surfaces are ruled each 64 units, so that one sees how far things are
+// surfaces are ruled each 64 units, so that you see how far things are
 const SURFACES = [`#version 300 es
 uniform mat4 camera; in vec3 place; in vec4 colour; in float ruled; uniform bool grey; out vec3 at; out vec4 tint; flat out float lines;
 void main() {
@@ -64,7 +64,7 @@ function prepare(view) {
     gl.blendFunc(gl.SRC_ALPHA, gl.ONE_MINUS_SRC_ALPHA);
 }
 
-// what is shown, and what the row leaves out; it changes only with the leaf from which one sees, and with keys
+// what is shown, and what the row leaves out; it changes only with the leaf of the eye, and with keys
 function choose() {
     const leaf = leafAt(state.frozen || state.eye), limited = state.row && rows !== null && !isSolid(leaf);
     const mark = `${limited && leaf} ${state.portals} ${modelsOn()}`;

@@ -1,4 +1,4 @@
-// The small plan in the corner, north above: what fills the leaves at the eye's height, and which of them the row of one's own leaf
+// The small plan in the corner, north above: what fills the leaves at the eye's height, and which of them the row of your own leaf
 // holds. It reaches farther in a large room than in a small one.
 
 const SIZE = 220, LEAST_REACH = 128, ROUND = 32, ROOM = 1.25, SLACK = 4;

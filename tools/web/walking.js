@@ -1,9 +1,9 @@
-// Where one stands and looks, by keys, by the mouse, and by what stands behind # in the page's address. Units are those of the
-// map, seconds, and right angles' parts as radians.
+// Where you stand and look, by keys, by the mouse, and by what stands after # in the page's address. Units are those of the
+// map, seconds, and radians.
 
 const SPEED = 320, FAST = 4, TURN = 1.8, STEP = 32, DRAG = 0.004, STEEPEST = 1.57, FARTHEST = 2 * LEVEL.bound - 1, WAYS = 16;
 
-// `frozen` is the place whose row is shown while one walks on, or null
+// `frozen` is the place whose row is shown while you walk on, or null
 const state = {
     eye: LEVEL.at, yaw: 0, pitch: 0, frozen: null,
     row: false, portals: false, leak: LEVEL.leak !== null, numbers: false, marks: true, models: true, list: false, solid: false, aim: false, zoom: 0, help: true, changed: true,
