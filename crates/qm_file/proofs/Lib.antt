@@ -7,3 +7,4 @@ pub mod Answered
 pub mod SizedRecords
 pub mod RecordFaults
 pub mod TreeFaults
+pub mod FaultSamples
