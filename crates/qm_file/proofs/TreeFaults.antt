@@ -12,7 +12,7 @@ use Rattle.qm_lists.specs.Spelling.{SpellsRow, RunFaultKind}
 use Rattle.qm_lists.specs.Spelling as runs
 use Rattle.qm_lists.specs.RowRead.{IsRowRead}
 use Rattle.qm_lists.specs.FirstWrong.{BeginsSpelling, IsFirstWrong, EndTooEarly}
-use Rattle.qm_formats.specs.Layout.{Decoded, got, bad, Layout, decoded_map, decoded_then, choice, many, each, each_after, present, followed_by, read_to_end}
+use Rattle.qm_formats.specs.Layout.{Decoded, got, bad, Layout, decoded_map, decoded_then, choice, many, each, each_after, present, read_to_end}
 use Rattle.qm_formats.specs.Fields.{AreBytes, raw, unsigned, signed, first_difference, fixed_before, unwritten}
 use Rattle.qm_formats.specs.Runs.{row_read, read_runs, row_answer, in_runs}
 use Rattle.qm_formats.specs.RowBits.{row_width, row_bits}
@@ -28,7 +28,7 @@ use Rattle.qm_formats.proofs.ExactFile.{magic_exact, bound_exact, header_exact, 
 use Rattle.qm_formats.proofs.ValidFiles.{right_valid, valid_right}
 use Rattle.qm_formats.proofs.ShortFaults.{map_bad, then_bad, chosen_bad, chosen_end, stands_from}
 use Rattle.qm_formats.proofs.Standing.{stands_nothing, stands_both, stands_first, stands_second}
-use Rattle.qm_file.specs.FirstFault.{Faults, EndsWithin, IsNoneAt, IsCutOff, cut_off, IsFaultOfRecord, IsFaultInTurn, IsFaultOfEach}
+use Rattle.qm_file.specs.FirstFault.{Faults, EndsWithin, IsNoneAt, IsCutOff, IsFaultOfRecord, IsFaultOfEach}
 use Rattle.qm_file.specs.TreeFaults.{size_since_second, IsMagicFault, magic_cut_off, other_magic, IsHeaderFault, IsPlaneFault, IsNodesFault, IsLeafFault, IsLeavesFault, in_leaf, other_count, IsTreeFault, RowEnds, IsRowFault, IsRowsFault, last_kind, IsSectionFault, IsSectionsFault, IsFaultOfParts, IsFaultOfFileBytes, too_many_bytes, in_part, behind_file}
 use Rattle.qm_file.proofs.SizedRecords.{IsSized, raw_sized, seen_as_sized, unsigned_sized, signed_sized, unwritten_sized, part_sized, last_part_sized, followed_by_sized, choice_sized, many_sized}
 use Rattle.qm_file.proofs.RecordFaults.{GivesFaults, IsRecord, sized_record, seen_as_record, tested_record, record_faults, sized_faults, last_part_faults, part_faults, each_faults}
