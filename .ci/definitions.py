@@ -83,6 +83,11 @@ class Definitions:
         return name
 
 
+def on_one_line(text):
+    """The text of a file of src/ with each `use` on a line of its own."""
+    return re.sub(r"(?m)^((?:pub )?use [\w:]+::\{)\n([^}]*)\};$", lambda found: found[1] + " ".join(found[2].split()).rstrip(",") + "};", text)
+
+
 class Source:
     """A file of src/: what it brings in, its types, and its public calls."""
 
@@ -90,7 +95,7 @@ class Source:
         self.crate, self.module, self.file = crate, module, source_file(crate, module)
         self.text = self.file.read_text()
         self.names, self.modules, self.types = {}, {}, {}
-        for line in map(str.strip, self.text.splitlines()):
+        for line in map(str.strip, on_one_line(self.text).splitlines()):
             bring_in(line, self.names, self.modules)
             found = RUST_IMPORT.match(line)
             for item in (found[2] or found[3]).split(",") if found else []:

@@ -1,2 +1,4 @@
 pub mod Answers
+pub mod FirstFault
+pub mod TreeFaults
 pub mod inner

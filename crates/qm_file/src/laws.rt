@@ -10,12 +10,13 @@ ghost use Rattle.qm_partition.specs.Tree.{Tree};
 ghost use Rattle.qm_partition.specs.Numbering.{AreNumbered};
 ghost use Rattle.qm_formats.specs.Layout.{got, bad};
 ghost use Rattle.qm_formats.specs.Fields.{AreBytes};
-ghost use Rattle.qm_formats.specs.FileParts.{is_plane, short, too_long};
+ghost use Rattle.qm_formats.specs.FileParts.{FileFaultKind, is_plane, short, too_long};
 ghost use Rattle.qm_formats.specs.Exact.{IsExact};
 ghost use Rattle.qm_formats.specs.FileLayout.{are_numbered, file_layout, file_bytes, file_limit, read_file, IsFileOf};
 ghost use Rattle.qm_formats.specs.TreeFile.{TreeFile, IsValidFile};
 ghost use Rattle.qm_formats.specs.Upgraded.{upgraded};
 ghost use Rattle.qm_formats.specs.FirstVersion.{first_version, first_version_bytes};
+ghost use Rattle.qm_file.specs.TreeFaults.{IsFaultOfFileBytes};
 
 /// What is read in a file of either version stands there and can stand there, and the other way round.
 pub fn exact_layout()
@@ -25,6 +26,11 @@ pub fn exact_layout()
 /// A file is read in bytes exactly where they are those of a valid file, and no more than are read.
 pub fn read_tree_file()
     ensures { (bytes : List ℕ) (file : TreeFile) → AreBytes bytes → (read_file bytes ≡ got file (length bytes) ↔ IsFileOf bytes file) }
+{}
+
+/// The fault that reading gives is the first in the order of the bytes, in words.
+pub fn first_tree_fault()
+    ensures { (bytes : List ℕ) (fault : FileFaultKind) (place : ℕ) → AreBytes bytes → (read_file bytes ≡ bad fault place ↔ IsFaultOfFileBytes bytes fault place) }
 {}
 
 /// No two tree files have the same bytes.

@@ -22,8 +22,8 @@ mod writing;
 
 pub use file_fault::FileFault;
 pub use laws::{
-    cut_file, exact_layout, first_version_file, numbered_nodes, one_tree_file, read_tree_file,
-    reduced_planes, upgraded_file,
+    cut_file, exact_layout, first_tree_fault, first_version_file, numbered_nodes, one_tree_file,
+    read_tree_file, reduced_planes, upgraded_file,
 };
 pub use plain::plain_file;
 pub use reading::decode;

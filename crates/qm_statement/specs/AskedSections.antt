@@ -11,6 +11,7 @@ use Rattle.qm_face_layout.specs.declared.face_record.FaceRecord.{FaceRecord}
 use Rattle.qm_face_sections.specs.MapFaces.{AreFacesOfMap}
 use Rattle.qm_face_sections.specs.FaceBytes.{AreBytesOfFaces}
 use Rattle.qm_commands.specs.declared.options.Options.{Options}
+use Rattle.qm_answers.specs.DecodedSections.{kind_of_models, kind_of_faces}
 use Rattle.qm_statement.specs.TreeBytes.{AreBytesOf}
 
 -- The sections that stand in a file beside the tree of a map.
@@ -35,9 +36,9 @@ abbrev pub AreHullsAsAsked : Bool → MapFile → List Section → Type 0
 AreHullsAsAsked true map sections = AreBothHulls map sections
 AreHullsAsAsked false map sections = sections ≡ []
 
--- the models of the map beside the tree of its world: their section has the kind 3, and its bytes are those of the models
+-- the models of the map beside the tree of its world: their section has their kind, and its bytes are those of the models
 pub record IsModelSection (map : MapFile) (world : Tree) (section : Section) : Type 0 where
-  pub kind_is : section.kind ≡ 3
+  pub kind_is : section.kind ≡ kind_of_models
   pub models : List BrushModel
   pub are_models : AreBrushModelsOf map world models
   pub bytes_are : AreBytesOfModels world models section.bytes
@@ -53,9 +54,9 @@ abbrev pub AreModelsAsAsked : Bool → MapFile → Tree → List Section → Typ
 AreModelsAsAsked true map world sections = AreModelsAlone map world sections
 AreModelsAsAsked false map world sections = sections ≡ []
 
--- the faces of the map by the tree of its world: their section has the kind 4, and its bytes are those of the faces
+-- the faces of the map by the tree of its world: their section has their kind, and its bytes are those of the faces
 pub record IsFaceSection (map : MapFile) (world : Tree) (section : Section) : Type 0 where
-  pub kind_is : section.kind ≡ 4
+  pub kind_is : section.kind ≡ kind_of_faces
   pub faces : List FaceRecord
   pub are_faces : AreFacesOfMap map world faces
   pub bytes_are : AreBytesOfFaces world faces section.bytes
