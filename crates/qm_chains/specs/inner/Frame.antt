@@ -1,4 +1,4 @@
-use Rattle.std.specs.Prelude.{◌≡◌, ◌↔◌, ◌⊎◌, ℕ, Bool, List, [], ◌∷◌, ◌++◌, All, length, Contains}
+use Rattle.std.specs.Prelude.{◌≡◌, ◌↔◌, ℕ, Bool, List, [], ◌∷◌, ◌++◌, All, length, Contains}
 use Rattle.std.specs.List.{AllZip}
 use Rattle.qm_lists.specs.WorkList.{IsIn}
 use Rattle.qm_partition.specs.Tree.{Tree}
