@@ -35,6 +35,6 @@ pairs_barred world now old new number leaves count new_is within unseen found ar
     let clear : List Bool = replicate leaves false in
     record {
       same_first = ap (λ (p : Pairs). p.first) new_is;
-      are = pairs_more world found old number clear new new_is within are (length-replicate leaves false ∙ count) (λ n wanted. absurd (unseen wanted.wanted.first wanted.portal wanted.wanted.first_is wanted.portal_is n wanted.wanted.via));
+      are = pairs_more world found old number clear new new_is within are (length-replicate leaves false ∙ count) (λ n wanted. absurd (unseen wanted.wanted.first wanted.portal wanted.wanted.first_is wanted.portal_is wanted.wanted.target wanted.wanted.via));
       within = λ ceilings lie lies. within_more world found old number clear new new_is within (IsInCeiling ceilings) lies (λ n is. absurd (none_clear leaves n is));
     }
