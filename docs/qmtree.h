@@ -79,7 +79,7 @@ typedef struct {
 
 /* a piece of the surface between what is solid and a leaf that is not: this leaf; the brush to which the piece belongs, by its number
    among those of the world that are not clip, and the number of its face there; and how many corners the piece has, 3 or more. They
-   go round with the clock as seen from the leaf, and qm_corner gives them */
+   go clockwise as seen from the leaf, and qm_corner gives them */
 typedef struct {
     int64_t leaf;
     uint64_t brush;
@@ -94,7 +94,7 @@ typedef struct {
 
 /* which numbered leaves touch each other and hold different contents, such as air above water. Rows do not know these */
 typedef struct {
-    int64_t *first;                             /* where the leaves that touch a numbered leaf begin in `others`, and, at last, their end */
+    int64_t *first;                             /* where the leaves that touch each numbered leaf begin in `others`, and then their end */
     int64_t *others;                            /* numbers of leaves, in no order; one may repeat */
 } qm_contacts;
 
@@ -109,19 +109,19 @@ static inline void qm_free(qm_tree *tree);
 /* the bytes of the section of a kind, or NULL; and how many there are */
 static inline const unsigned char *qm_section(const qm_tree *tree, uint32_t kind, uint64_t *size);
 
-/* loads clip hull 1 or 2, a tree of its own. "no part" if the file has none, "bad part" if its bytes are none, or "no memory" */
+/* loads clip hull 1 or 2, a tree of its own. "no part" if the file has none, "bad part" if its bytes are no such tree, or "no memory" */
 static inline const char *qm_load_hull(const qm_tree *tree, uint32_t which, qm_tree *hull);
 
 /* loads all brush models, with the same answers */
 static inline const char *qm_load_models(const qm_tree *tree, qm_models *models);
 static inline void qm_free_models(qm_models *models);
 
-/* the same of bytes by themselves, in a world with such a bound and so many numbered leaves. The first fault is "short", "form" or
-   "trailing", at an offset of these bytes */
+/* the same for bytes by themselves, in a world of this bound with this many numbered leaves. The first fault is "short", "form" or
+   "trailing", at an offset in these bytes */
 static inline const char *qm_read_models(const unsigned char *bytes, uint64_t size, int32_t bound, int64_t numbered,
                                          qm_models *models, uint64_t *place);
 
-/* loads all faces, with the same answers; and of bytes by themselves, as a section of this tree */
+/* loads all faces, with the same answers; qm_read_faces reads bytes by themselves, as a section of this tree */
 static inline const char *qm_load_faces(const qm_tree *tree, qm_faces *faces);
 static inline void qm_free_faces(qm_faces *faces);
 static inline const char *qm_read_faces(const unsigned char *bytes, uint64_t size, const qm_tree *tree, qm_faces *faces, uint64_t *place);
@@ -131,13 +131,13 @@ static inline const char *qm_read_faces(const unsigned char *bytes, uint64_t siz
 static inline const char *qm_find_contacts(const qm_tree *tree, qm_contacts *contacts);
 static inline void qm_free_contacts(qm_contacts *contacts);
 
-/* Asking. A point on the plane of a node counts to its front. Coordinates are double, which is exact for whole ones, and for quarters
+/* Asking. A point on the plane of a node counts as in front. Coordinates are double, which is exact for whole ones, and for quarters
    and the like; next to a slanted plane other points can come out on its wrong side. */
 
 /* the leaf of a point */
 static inline int64_t qm_leaf_at(const qm_tree *tree, const double point[3]);
 
-/* what a leaf holds, whether it is filled since it lies outside, and its number, -1 if it is solid; of leaves that there are */
+/* what a leaf holds, whether it is filled since it lies outside, and its number, -1 if it is solid. The leaf has to exist */
 static inline int qm_contents(const qm_tree *tree, int64_t leaf);
 static inline int qm_is_filled(const qm_tree *tree, int64_t leaf);
 static inline int64_t qm_number_of(const qm_tree *tree, int64_t leaf);
@@ -453,7 +453,7 @@ static inline const char *qm_load_hull(const qm_tree *tree, uint32_t which, qm_t
     return bytes ? qm_load_plain(hull, bytes, size, tree->bound) : "no part";
 }
 
-/* the next model, behind an entity; once all its bytes are there its form is looked at */
+/* the next model, whose entity is above the one before; its form is checked once all its bytes are there */
 static inline int qm_read_model(qm_reader *in, int32_t bound, int64_t numbered, uint64_t before, qm_model *model) {
     uint64_t begin = in->at, count, size, least = 0;
     const unsigned char *at = qm_take(in, 40), *bytes;
@@ -580,7 +580,7 @@ static inline double qm_sum(const int64_t one[3], const int64_t other[3]) {
     return (double)high * (double)low_54 + (double)low;
 }
 
-/* the weight of the point in which three planes meet, 0 where they meet in no point alone, and with it the point if that is wanted */
+/* the weight of the point in which three planes meet, 0 if they do not meet in exactly one, and with it the point if that is wanted */
 static inline double qm_meeting(int64_t planes[3][4], double *point) {
     int64_t across[3][3], ends[3], parts[3];
     double weight;
@@ -739,7 +739,7 @@ static inline int qm_sees(const qm_tree *tree, int64_t number, int64_t other) {
     return place == 0 && (*at >> (other & 7) & 1);
 }
 
-/* a node is crossed where its plane parts the two ends, always at the same part of the segment; so each span ends behind the last */
+/* a node is crossed where its plane parts the two ends, always at the same part of the segment; so each span ends after the one before */
 static inline qm_span qm_span_at(const qm_tree *tree, const double from[3], const double to[3], double at) {
     qm_span span;
     int64_t child = qm_root(tree);
@@ -865,7 +865,7 @@ static inline double qm_corner_side(const double plane[4], const double *corner)
     return side * side <= 1e-10 * length ? 0 : side;
 }
 
-/* what a polygon has on one side of a plane: whether there is anything. A polygon on the plane counts to its front */
+/* what a polygon has on one side of a plane: whether there is anything. A polygon on the plane counts as in front */
 static inline int qm_cut(const qm_pane *from, const double plane[4], int to_front, qm_pane *part) {
     int at, count = 0, is_there = 0, is_on = 1;
     double sign = to_front ? 1 : -1;

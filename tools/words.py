@@ -5,7 +5,7 @@ import re
 
 from treefile import BOUNDS, HULLS
 
-# the options behind which a place may stand
+# the options after which a place may stand
 PLACED = ("--at", "--from", "--to", "--row", "--trace")
 
 
@@ -16,7 +16,7 @@ def words_of(parser, words):
     plan_words.add_argument("--z", type=height, help="the height; without it that of a player's eyes at the start of a map, "
                             "or one at which there is much to see")
     plan_words.add_argument("--map", metavar="MAP", help="marks the entities of a map")
-    plan_words.add_argument("--leak", metavar="TRAIL", type=trail, help='the numbers behind `trail: `, as "8 6 0"')
+    plan_words.add_argument("--leak", metavar="TRAIL", type=trail, help='the numbers after `trail: `, as "8 6 0"')
     plan_words.add_argument("--row", metavar="N", type=number, help="shows the leaves that row N holds")
     plan_words.add_argument("--prt", metavar="FILE", help="shows the portals of a listing")
     plan_words.add_argument("--hull", metavar="H", type=number, choices=sorted(HULLS), help="shows what is solid in clip hull 1 or 2")
@@ -26,17 +26,17 @@ def words_of(parser, words):
                             "another, or with --hull those of that hull")
     points_words = command(commands, "points", "the line of a leak, as a point file for editors")
     points_words.add_argument("--leak", metavar="TRAIL", type=trail, required=True, help="the same")
-    view_words = command(commands, "view", "a page in which one walks through the level, for a browser")
+    view_words = command(commands, "view", "a page in which you walk through the level, for a browser")
     view_words.add_argument("--at", metavar="X,Y,Z", type=place, help="where you begin")
     view_words.add_argument("--map", metavar="MAP", help="marks the entities of a map; without --at you begin at its player start; "
                             "with faces in OUT walls have a colour for each texture")
     view_words.add_argument("--leak", metavar="TRAIL", type=trail, help="has the line of a leak")
     view_words.add_argument("--prt", metavar="FILE", help="has the portals of a listing")
     picture_words = command(commands, "picture", "a view from a place, as an SVG picture")
-    picture_words.add_argument("--from", metavar="X,Y,Z", type=place, required=True, dest="eye", help="where one stands")
-    picture_words.add_argument("--to", metavar="X,Y,Z", type=place, required=True, dest="aim", help="where one looks")
+    picture_words.add_argument("--from", metavar="X,Y,Z", type=place, required=True, dest="eye", help="where you stand")
+    picture_words.add_argument("--to", metavar="X,Y,Z", type=place, required=True, dest="aim", help="where you look")
     picture_words.add_argument("--row", metavar="X,Y,Z", type=place, nargs="?", const=True,
-                               help="shows what the row of the leaf there holds; without a place, of one's own leaf")
+                               help="shows what the row of the leaf there holds; without a place, of your own leaf")
     picture_words.add_argument("--leak", metavar="TRAIL", type=trail, help="has the line of a leak")
     picture_words.add_argument("--map", metavar="MAP", help="with faces in OUT walls have a colour for each texture, and lines where the "
                                "faces of brushes end")

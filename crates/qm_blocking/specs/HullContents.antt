@@ -11,7 +11,7 @@ use Rattle.qm_blocking.specs.Boxes.{IsInBoxAt}
 use Rattle.qm_blocking.specs.Blocking.{solid_part, IsObstacle}
 use Rattle.qm_blocking.specs.MovedSolids.{moved_part}
 
--- What a point is where a moving box is a point. No tree occurs here.
+-- What a point of a clip hull holds, where a moving box is a single point. No tree occurs here.
 
 -- some obstacle of the world has the point behind or on each of its moved planes
 pub record IsBlocked (map : MapFile) (box : Cuboid) (x : Point) : Type 0 where

@@ -5,8 +5,8 @@ use Rattle.qm_lists.specs.WorkList.{IsIn}
 use Rattle.qm_contacts.specs.Portals.{Portal}
 use Rattle.qm_chains.specs.Turns.{MayHaveAfter}
 
--- Turns that several workers take beside one another: for each worker the list of the portals whose turns it took, by their
--- numbers and in order.
+-- Turns that several workers take in parallel: for each worker the list of the portals whose turns it took, by their numbers and
+-- in order.
 
 -- numbers ascend, and may begin again once: they are two ascending lists, one after the other
 pub record AscendTwice (numbers : List ℕ) : Type 0 where
@@ -16,7 +16,7 @@ pub record AscendTwice (numbers : List ℕ) : Type 0 where
   pub first_ascends : IsStrictlyIncreasing first
   pub second_ascends : IsStrictlyIncreasing second
 
--- these are turns of so many workers at so many portals: each portal had its turn in some list; each list ascends, and the
+-- these are turns of that many workers at that many portals: each portal had its turn in some list; each list ascends, and the
 -- first alone may begin again once
 pub record AreTurns (workers portals : ℕ) (turns : List (List ℕ)) : Type 0 where
   pub one_each : length turns ≡ workers

@@ -1,7 +1,7 @@
 use Rattle.std.specs.Prelude.{◌≡◌, ◌≢◌, ℕ, Bool, true, false, List, [], ◌∷◌, ◌++◌, Option, Some, None, codes}
 use Rattle.qm_commands.specs.FileNames.{IsFileName}
 
--- What the words behind `compile` ask for.
+-- What the words after `compile` ask for.
 
 -- names of files, in the order of the words; coarse rows; hulls; models; faces; a listing under a name; and workers, as a number
 -- is written

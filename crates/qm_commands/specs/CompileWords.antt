@@ -5,8 +5,8 @@ use Rattle.qm_commands.specs.CompileRequest.{Request, no_request, Asks}
 use Rattle.qm_commands.specs.FileNames.{FileNames, AreDifferent}
 use Rattle.qm_commands.specs.Options.{AreThreads}
 
--- `compile MAP OUT`, with the options `--prt FILE`, `--threads N`, `--fast`, `--hulls`, `--models` and `--faces` anywhere behind
--- `compile`: the files are different from one another
+-- `compile MAP OUT`, with the options `--prt FILE`, `--threads N`, `--fast`, `--hulls`, `--models` and `--faces` anywhere after
+-- `compile`; the names of the files are different
 pub record AreCompileWords (words : List (List ℕ)) (options : Options) (listed : Bool) (files : FileNames) : Type 0 where
   pub rest : List (List ℕ)
   pub words_are : words ≡ codes "compile" ∷ rest

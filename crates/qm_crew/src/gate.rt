@@ -1,6 +1,6 @@
-//! Where workers pass by.
+//! What workers call as they go.
 
-/// What workers tell on their way. No clause rests on what it does with that.
+/// What workers call as they go. No clause rests on what a gate does.
 pub trait Gate {
     /// A worker has drawn a portal, and is about to flow it.
     fn at(&self, portal: u64);

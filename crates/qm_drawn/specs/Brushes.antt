@@ -6,6 +6,8 @@ use Rattle.qm_mapfile.specs.declared.entity.MapFile.{MapFile}
 use Rattle.qm_contents.specs.declared.contents.Contents.{Contents}
 use Rattle.qm_contents.specs.Texture.{contents_of_texture}
 
+-- The brushes of the world and of any other entity, what fills each, and which are drawn.
+
 -- the brushes of the first entity, the world
 abbrev pub brushes_of_first : List Entity → List Brush
 brushes_of_first [] = []
@@ -14,7 +16,7 @@ brushes_of_first (world ∷ others) = world.brushes
 abbrev pub world_brushes : MapFile → List Brush
 world_brushes map = brushes_of_first map.entities
 
--- the brushes of the entity of that number, of which the world is 0
+-- the brushes of the entity of that number; the world has the number 0
 abbrev pub entity_brushes : MapFile → ℕ → List Brush
 entity_brushes map e = (slice_index_or map.entities e (record { pairs = []; brushes = [] })).brushes
 
@@ -31,7 +33,7 @@ contents_of_brush brush = contents_of_texture (first_texture brush.faces)
 abbrev pub is_drawn : Brush → Bool
 is_drawn brush = is_some (contents_of_brush brush)
 
--- the brushes among some that are not clip, in their order
+-- those of some brushes that are not clip, in their order
 abbrev pub drawn_ones : List Brush → List Brush
 drawn_ones brushes = filter is_drawn brushes
 

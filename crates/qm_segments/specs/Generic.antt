@@ -11,7 +11,7 @@ use Rattle.qm_segments.specs.Segment.{Segment, IsOnSegment}
 abbrev pub IsNodePlane : Tree → Plane → Type 0
 IsNodePlane tree h = (n : ℕ) × Contains (node_planes tree.shape) n × (plane_at tree.planes n ≡ h)
 
--- a segment inside the cube whose ends are on no node plane, and of which no point is on two different ones
+-- a segment inside the cube with both ends off all node planes, and no point on two different ones
 pub record IsGeneric (tree : Tree) (s : Segment) : Type 0 where
   pub from_in_cube : IsInCube s.from
   pub to_in_cube : IsInCube s.to

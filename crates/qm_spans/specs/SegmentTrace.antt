@@ -11,11 +11,13 @@ use Rattle.qm_spans.specs.declared.span.Span.{Span}
 use Rattle.qm_spans.specs.Place.{start_place, end_place}
 use Rattle.qm_spans.specs.Spans.{AreSpans}
 
+-- Traces of segments through trees, and which trees and segments can be traced.
+
 -- the trace of a segment through a tree: its spans from the start to the end, by the leaves to which the tree leads points
 abbrev pub IsSegmentTrace : Tree → (a b : Point) → List Span → Type 0
 IsSegmentTrace tree a b spans = AreSpans (leaf_at tree.planes tree.shape) a b start_place end_place spans
 
--- no plane of a node is farther than a plane can be that has a point of the closed cube
+-- no node's plane has a distance above the greatest that a plane with a point of the closed cube can have
 abbrev pub FitsTraces : Tree → Type 0
 FitsTraces tree = All (λ n. unsigned_abs (plane_at tree.planes n).d ≤ cube_distance_bound) (node_planes tree.shape)
 

@@ -1,5 +1,5 @@
-/// Where a segment is parted: so many parts of it lie before the place, and so many behind it. None lies before the segment's
-/// start, and none behind its end.
+/// A place that divides a segment in the ratio `before` to `behind`. At the segment's start `before` is 0, at its end `behind`
+/// is 0.
 #[derive(Clone, Copy)]
 pub struct Parting {
     pub before: u64,

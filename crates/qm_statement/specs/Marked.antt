@@ -5,7 +5,7 @@ use Rattle.qm_contacts.specs.Leak.{Origin, TakesPart, leaf_of_origin}
 use Rattle.qm_contacts.specs.Filled.{IsToBeFilled, IsFilledRow}
 use Rattle.qm_contacts.specs.PortalChain.{IsChained}
 
--- the tree that is written: that of the map, of which exactly those leaves are filled that are to be filled
+-- the tree that is written: that of the map, with exactly the leaves filled that are to be filled
 pub record IsMarked (tree : Tree) (origins : List Origin) (written : Tree) : Type 0 where
   pub row : List Bool
   pub are_filled : IsFilledRow tree origins row
