@@ -23,7 +23,7 @@ fn cut_off(bytes: &[u8]) -> CutOff
 
 /// A number of 8 bits, and where it ends.
 #[tactic(auto, unfolding(qm_formats::specs::Fields::unsigned, qm_formats::specs::Fields::raw))]
-pub fn u8_at(bytes: &[u8], at: usize) -> Result<(u8, usize), CutOff>
+pub(crate) fn u8_at(bytes: &[u8], at: usize) -> Result<(u8, usize), CutOff>
     ensures { AnswersField result ((unsigned short w8).read bytes.now at) }
 {
     if bytes.len().saturating_sub(at) < 1 {

@@ -1,10 +1,9 @@
 ghost use Rattle.std.specs.Prelude.{◌≡◌, length};
 ghost use Rattle.qm_file.specs.declared.file_fault.FileFault.TheVariants.{Short, Memory};
 
+use crate::field_reading::CutOff;
 use std::alloc::{AllocError, AllocFailed};
 use thiserror::Error;
-
-use crate::field_reading::CutOff;
 
 /// Why bytes are no tree file: the first fault in the order of the file, and its place.
 #[derive(Clone, Copy, Debug, PartialEq, Eq, Error)]
