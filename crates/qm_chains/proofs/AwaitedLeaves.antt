@@ -10,16 +10,16 @@ use Rattle.qm_space.specs.Line.{IsBetween}
 use Rattle.qm_segments.specs.Segment.{Segment}
 use Rattle.qm_segments.specs.GoesThrough.{GoesThrough}
 use Rattle.qm_segments.specs.Sight.{IsInSight}
-use Rattle.qm_segments.specs.Ahead.{IsAhead}
+use Rattle.qm_segments.specs.Ahead.{IsAheadOver}
 use Rattle.qm_segments.specs.Steps.{LetSegmentsThrough}
-use Rattle.qm_segments.proofs.AheadLaws.{IsNext, next_ahead}
+use Rattle.qm_segments.proofs.AheadLaws.{IsNext, next_ahead, ahead_over, leaf_ahead_in_sight}
 use Rattle.qm_separators.specs.ChainState.{ChainState}
 use Rattle.qm_separators.specs.PortalSteps.{BeginsWith, StepsThrough, MeetsState}
 use Rattle.qm_separators.proofs.PortalStepLaws.{are_convex, lets_pass}
 use Rattle.qm_separators.proofs.ChainLaws.{lets, ahead_at_start}
 use Rattle.qm_contacts.specs.OwnPortals.{HasOwnPortals}
 use Rattle.qm_chains.specs.Shown.{IsAt}
-use Rattle.qm_chains.specs.inner.Frame.{Frame, StopsAt, not_passed, blocked, IsAwaited}
+use Rattle.qm_chains.specs.inner.Frame.{Frame, StopsAt, not_passed, blocked, MayEnter, IsAwaited}
 
 -- all portals that leave the leaf are among these numbers
 abbrev pub HasAllLeaving : List Portal → ℕ → List ℕ → Type 0
@@ -50,24 +50,8 @@ module _ (world : World) (own : HasOwnPortals world) (first : Portal) where
       by s q state x y met among through on (not_passed never) = never (lets_pass (portals_of world.tree own.touchings) (are_convex world.tree own.touchings own.are_touchings) state s q x y met among through on)
       by s q state x y met among through on (blocked is) = (lets world.tree own.have_points own.touchings own.are_touchings).not_blocked s q state x y met among through on is
 
-  -- a leaf that is ahead stays so where fewer leaves were met
-  pub fewer_met : (state : ChainState) (leaf n : ℕ) (met fewer : List ℕ) → ((m : ℕ) → Contains fewer m → Contains met m) → IsAhead MeetsState world.tree first state leaf met n → IsAhead MeetsState world.tree first state leaf fewer n
-  fewer_met state leaf n met fewer among ahead = record {
-    sight = ahead.sight;
-    at = ahead.at;
-    between = ahead.between;
-    met = ahead.met;
-    before = ahead.before;
-    here = ahead.here;
-    rest = ahead.rest;
-    leaves_are = ahead.leaves_are;
-    passes = ahead.passes;
-    here_is = ahead.here_is;
-    not_again = λ m j there number in_fewer. ahead.not_again m j there number (among m in_fewer);
-  }
-
-  module _ (frame : Frame) (leaf n : ℕ) (met : List ℕ) (met_is : (m : ℕ) → IsIn frame.met m ↔ Contains met m) (in_mask : IsIn frame.mask n) (leaving : HasAllLeaving world.portals leaf frame.untried) where
-    awaited : IsNext world.tree own.have_points own.touchings own.are_touchings BeginsWith StepsThrough StopsAt MeetsState none_stops first frame.state leaf met n → IsAwaited world first n frame
+  module _ (frame : Frame) (leaf n : ℕ) (in_mask : IsIn frame.mask n) (leaving : HasAllLeaving world.portals leaf frame.untried) where
+    awaited : IsNext world.tree own.have_points own.touchings own.are_touchings BeginsWith StepsThrough StopsAt MeetsState none_stops first frame.state leaf (MayEnter frame) n → IsAwaited world first n frame
     awaited next =
         let at = number_of_listed world.portals next.portal (listed next.portal next.listed) in
         record {
@@ -76,40 +60,33 @@ module _ (world : World) (own : HasOwnPortals world) (first : Portal) where
           untried = leaving at.0 next.portal at.1 next.from;
           portal = next.portal;
           portal_is = at.1;
-          next = record {
-            new = λ is. next.new ((met_is next.portal.to).0 is);
-            via = next.via;
-            not_stopped = next.not_blocked;
-            ahead = λ after step others among. fewer_met after next.portal.to n (next.portal.to ∷ met) others
-                (λ m there. ⊎_elim
-                (λ here. subst (Contains (next.portal.to ∷ met)) here (Contains-first next.portal.to met))
-                (λ is. Contains-later next.portal.to m met ((met_is m).0 is))
-                (among m there))
-                (next.ahead after step);
-          };
+          next = record { may_enter = next.has; via = next.via; not_stopped = next.not_blocked; ahead = next.ahead };
         }
 
     -- it is the leaf that was entered last, or awaited
-    pub reached_or_awaited : IsAhead MeetsState world.tree first frame.state leaf met n → (leaf ≡ n) ⊎ IsAwaited world first n frame
+    pub reached_or_awaited : IsAheadOver MeetsState world.tree first frame.state leaf (MayEnter frame) n → (leaf ≡ n) ⊎ IsAwaited world first n frame
     reached_or_awaited ahead = ⊎_elim (λ here. inl here) (λ next. inr (awaited next))
-        (next_ahead world.tree own.have_points own.touchings own.are_touchings BeginsWith StepsThrough StopsAt MeetsState none_stops first frame.state leaf met n ahead)
+        (next_ahead world.tree own.have_points own.touchings own.are_touchings BeginsWith StepsThrough StopsAt MeetsState none_stops first frame.state leaf (MayEnter frame) n ahead)
 
-  -- ---- at the start
+  -- ---- at the start, where the mask has all that is in sight
 
-  pub first_awaited : (p : ℕ) (frame : Frame) (n : ℕ) → IsAt world.portals p first → BeginsWith first frame.state →
-      ((m : ℕ) → IsIn frame.met m ↔ Contains (first.from ∷ first.to ∷ []) m) → HasAllLeaving world.portals first.to frame.untried →
-      IsIn frame.mask n → IsInSight world.tree first n → (first.to ≡ n) ⊎ IsAwaited world first n frame
-  first_awaited p frame n first_is begun met_is leaving in_mask sight =
-      reached_or_awaited frame first.to n (first.to ∷ first.from ∷ [])
-      (λ m. ((λ is. swapped first.from first.to m ((met_is m).0 is)), (λ there. (met_is m).1 (swapped first.to first.from m there))))
-      in_mask leaving
-      (ahead_at_start world.tree own.have_points own.touchings own.are_touchings first n frame.state (listed_own first (Contains-at world.portals p first first_is)) begun sight)
-    where
-      swapped : (a b m : ℕ) → Contains (a ∷ b ∷ []) m → Contains (b ∷ a ∷ []) m
-      swapped a b m there = ⊎_elim
-          (λ is_a. subst (Contains (b ∷ a ∷ [])) is_a (Contains-later b a (a ∷ []) (Contains-first a [])))
-          (λ later. ⊎_elim
-          (λ is_b. subst (Contains (b ∷ a ∷ [])) is_b (Contains-first b (a ∷ [])))
-          (λ none. let range = none.1 in absurd (omega arith))
-          (Contains-cons_cases b m [] later))
-          (Contains-cons_cases a m (b ∷ []) there)
+  module _ (p : ℕ) (frame : Frame) (first_is : IsAt world.portals p first) (begun : BeginsWith first frame.state) (met_is : (m : ℕ) → IsIn frame.met m ↔ Contains (first.from ∷ first.to ∷ []) m)
+      (leaving : HasAllLeaving world.portals first.to frame.untried) (sees : (m : ℕ) → IsInSight world.tree first m → IsIn frame.mask m) where
+    swapped : (a b m : ℕ) → Contains (a ∷ b ∷ []) m → Contains (b ∷ a ∷ []) m
+    swapped a b m there = ⊎_elim
+        (λ is_a. subst (Contains (b ∷ a ∷ [])) is_a (Contains-later b a (a ∷ []) (Contains-first a [])))
+        (λ later. ⊎_elim
+        (λ is_b. subst (Contains (b ∷ a ∷ [])) is_b (Contains-first b (a ∷ [])))
+        (λ none. let range = none.1 in absurd (omega arith))
+        (Contains-cons_cases b m [] later))
+        (Contains-cons_cases a m (b ∷ []) there)
+
+    pub first_awaited : (n : ℕ) → IsInSight world.tree first n → (first.to ≡ n) ⊎ IsAwaited world first n frame
+    first_awaited n sight =
+        let ahead = ahead_at_start world.tree own.have_points own.touchings own.are_touchings first n frame.state (listed_own first (Contains-at world.portals p first first_is)) begun sight in
+        reached_or_awaited frame first.to n (sees n sight) leaving
+        (ahead_over MeetsState world.tree first frame.state first.to (λ m. Contains (first.to ∷ first.from ∷ []) m → ⊥) n ahead (MayEnter frame)
+        (λ m j there number. (
+          (λ is. ahead.each_has m j there number (swapped first.from first.to m ((met_is m).0 is))),
+          sees m (leaf_ahead_in_sight MeetsState world.tree first frame.state first.to (λ m. Contains (first.to ∷ first.from ∷ []) m → ⊥) n ahead m j there number),
+        )))

@@ -127,5 +127,5 @@ module _ (world : World) (own : HasOwnPortals world) (p : ℕ) (first : Portal) 
           (λ kept. absurd (kept.0 (subst (IsIn frame.mask) (sym last) here)))
           finds))
           (λ awaited. inr (subst (λ (r : Portal). IsAwaited world r n frame) (sym (same_portal world.portals p other first at first_is)) awaited))
-          (first_awaited world own first p frame n first_is begun met_both (all_leaving world.portals first.to frame.untried leaving) here sight);
+          (first_awaited world own first p frame first_is begun met_both (all_leaving world.portals first.to frame.untried leaving) (λ m seen. in_mask m seen (sight_within m seen)) n sight);
     }

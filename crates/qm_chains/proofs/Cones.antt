@@ -1,5 +1,5 @@
--- A leaf that is ahead is in the cone. A walk that goes on may be narrowed by its cone, and given up where nothing new is in it.
-use Rattle.std.proofs.Common.{ap, ◌≡◌, ◌⊎◌, inl, inr, ⊎_elim, ℕ, ◌+◌, ◌<◌, Bool, true, not, List, length, set, Contains, Option, Some, None, refl, sym, ◌∙◌, subst}
+-- A leaf that is ahead is in the cone, with all on the way to it. A walk that goes on may be narrowed by its cone, and given up where nothing new is in it.
+use Rattle.std.proofs.Common.{ap, ◌≡◌, ◌⊎◌, inl, inr, ⊎_elim, ℕ, ◌+◌, ◌<◌, Bool, true, not, List, ◌∷◌, length, set, Contains, Option, Some, None, refl, sym, ◌∙◌, subst}
 use Rattle.std.specs.Prelude.{MatchOption}
 use Rattle.std.specs.List.{count_by}
 use Rattle.qm_lists.specs.Unseen.{HasUnseen}
@@ -8,49 +8,66 @@ use Rattle.qm_lists.specs.Reach.{start, onward}
 use Rattle.qm_contacts.specs.OwnPortals.{HasOwnPortals}
 use Rattle.qm_contacts.specs.Portals.{Portal, portals_of}
 use Rattle.qm_contacts.specs.World.{World, AreLeaving}
-use Rattle.qm_segments.specs.SeenVia.{IsSeenVia}
-use Rattle.qm_segments.specs.Ahead.{IsAhead}
+use Rattle.qm_segments.specs.LeafNumber.{IsNumberOf}
+use Rattle.qm_segments.specs.SeenVia.{IsSeenVia, LiesFartherOn}
+use Rattle.qm_segments.specs.Ahead.{IsAheadOver}
 use Rattle.qm_segments.specs.Route.{Route, arrived, over}
 use Rattle.qm_separators.specs.PortalSteps.{StepsThrough, LetsPass, MeetsState}
-use Rattle.qm_separators.proofs.ChainLaws.{route_on}
+use Rattle.qm_segments.proofs.AheadLaws.{ahead_over, ahead_with}
+use Rattle.qm_segments.proofs.ViaLaws.{target_on_way}
+use Rattle.qm_separators.proofs.ChainLaws.{route_on, route_to_last}
 use Rattle.qm_chains.specs.Shown.{IsAt}
 use Rattle.qm_lists.specs.CutTo.{IsCutTo}
 use Rattle.qm_chains.specs.inner.Cone.{IsInCone, IsLeftOf, with_mask}
 use Rattle.qm_contacts.specs.NumberedLeaves.{numbered_leaves}
-use Rattle.qm_lists.proofs.Elements.{Contains-first}
+use Rattle.qm_lists.proofs.Elements.{Contains-first, Contains-later}
 use Rattle.std.proofs.lemmas.List.{length-set}
 use Rattle.std.proofs.lemmas.Option.{slice_get_within}
-use Rattle.qm_chains.specs.inner.Frame.{Frame, put_back, EndsChain, IsNextTo, IsAwaited}
+use Rattle.qm_chains.specs.inner.Frame.{Frame, put_back, EndsChain, MayEnter, IsNextTo, IsAwaited}
 use Rattle.qm_chains.specs.inner.Wanted.{IsWantedVia}
 use Rattle.qm_chains.specs.inner.Search.{IsFrameOf, IsLookedThrough}
 use Rattle.qm_chains.specs.inner.Walk.{IsTried}
 use Rattle.qm_chains.proofs.AwaitedLeaves.{reached_or_awaited}
 use Rattle.qm_chains.proofs.ChainEnds.{GainsOne, step_ends, end_shown}
-use Rattle.qm_chains.proofs.MetLeaves.{has_places}
 use Rattle.qm_chains.proofs.TriedPortals.{in_or_clear, not_in_if_clear, clear_if_not_in, next_wanted, same_portal, gains_one, all_leave, all_leaving, few_leaving, FindsLast, found_long, found_keeps, found_last, found_only}
 use Rattle.qm_chains.proofs.Weights.{fewer_clear}
 
 -- ---- what is ahead
 
 module _ (world : World) (own : HasOwnPortals world) (p : ℕ) (first : Portal) (first_is : IsAt world.portals p first) (frame : Frame) (found : List Bool) (entered n : ℕ) (in_mask : IsIn frame.mask n) (not_found : IsIn found n → ⊥) where
-  -- a way over portals that the state lets pass, and via which the leaf is seen, stays in the cone
-  way_in_cone : (Has : Portal → Type 0) → ((q : Portal) → Has q → LetsPass frame.state q × IsSeenVia world.tree first q n × (IsIn frame.met q.to → ⊥)) →
-      (from : ℕ) → Route (portals_of world.tree own.touchings) Has from n → IsInCone world p frame found entered from → IsInCone world p frame found entered n
-  way_in_cone Has leads from arrived there = there
-  way_in_cone Has leads from (over {q = q} listed leaves has rest) there =
-      way_in_cone Has leads q.to rest
+  -- a way over portals that the state lets pass, via which the leaf is seen, and whose leaves the chain may enter, stays in the cone
+  way_in_cone : (Has : Portal → Type 0) → ((q : Portal) → Has q → LetsPass frame.state q × IsSeenVia world.tree first q n × MayEnter frame q.to) →
+      (from to : ℕ) → Route (portals_of world.tree own.touchings) Has from to → IsInCone world p frame found entered from → IsInCone world p frame found entered to
+  way_in_cone Has leads from to arrived there = there
+  way_in_cone Has leads from to (over {q = q} listed leaves has rest) there =
+      way_in_cone Has leads q.to to rest
       (onward there (record {
         portal = q;
         listed = subst (λ (all : List Portal). Contains all q) (sym own.portals_are) listed;
         from_is = leaves;
         to_is = refl;
-        leads = record { passed = (leads q has).0; new = (leads q has).2; leaf = n; in_mask = in_mask; wanted = record { first = first; first_is = first_is; via = (leads q has).1; not_found = not_found } };
+        leads = record {
+          passed = (leads q has).0;
+          may_enter = (leads q has).2;
+          leaf = n;
+          in_mask = in_mask;
+          not_found = not_found;
+          wanted = record { first = first; first_is = first_is; target = n; via = (leads q has).1; on_way = target_on_way world.tree first q n (leads q has).1; not_found = not_found };
+        };
       }))
 
-  pub ahead_in_cone : (met : List ℕ) → ((m : ℕ) → IsIn frame.met m → Contains met m) → IsAhead MeetsState world.tree first frame.state entered met n → IsInCone world p frame found entered n
-  ahead_in_cone met met_is ahead =
-      way_in_cone _ (λ q is. (is.passed, is.via, λ again. is.new (met_is q.to again))) entered
-      (route_on world.tree own.have_points own.touchings own.are_touchings first frame.state entered met n ahead) (start refl)
+  module _ (ahead : IsAheadOver MeetsState world.tree first frame.state entered (MayEnter frame) n) where
+    -- each leaf on the way to the one that is ahead
+    pub on_way_in_cone : (m j : ℕ) → IsNumberOf world.tree m j → Contains (ahead.here ∷ ahead.rest) j → IsInCone world p frame found entered m
+    on_way_in_cone m j number there =
+        way_in_cone _ (λ q is. (is.passed, is.via, is.has)) entered m
+        (route_on world.tree own.have_points own.touchings own.are_touchings first frame.state entered (MayEnter frame) n ahead m j number there) (start refl)
+
+    -- and that one
+    pub ahead_in_cone : IsInCone world p frame found entered n
+    ahead_in_cone =
+        way_in_cone _ (λ q is. (is.passed, is.via, is.has)) entered n
+        (route_to_last world.tree own.have_points own.touchings own.are_touchings first frame.state entered (MayEnter frame) n ahead) (start refl)
 
 -- ---- what is left of a frame
 
@@ -78,20 +95,37 @@ module _ (world : World) (own : HasOwnPortals world) (p : ℕ) (frame : Frame) (
   abbrev narrowed : Frame
   narrowed = with_mask is_left.mask child
 
+  -- a leaf that is ahead over leaves that the chain may enter stays so, and stays in the mask, when it is narrowed by the cone
+  module _ (first : Portal) (first_is : IsAt world.portals p first) (n : ℕ) (in_it : IsIn child.mask n) (never : IsIn found n → ⊥) (ahead : IsAheadOver MeetsState world.tree first child.state q.to (MayEnter child) n) where
+    kept : IsIn is_left.mask n
+    kept = is_left.keeps n in_it (ahead_in_cone world own p first first_is child found q.to n in_it never ahead)
+
+    still_ahead : IsAheadOver MeetsState world.tree first narrowed.state q.to (MayEnter narrowed) n
+    still_ahead = ahead_over MeetsState world.tree first child.state q.to (MayEnter child) n ahead (MayEnter narrowed)
+        (λ m j there number.
+        let may = ahead.each_has m j there number in
+        (may.0, is_left.keeps m may.1 (on_way_in_cone world own p first first_is child found q.to n in_it never ahead m j number (Contains-later ahead.here j ahead.rest there))))
+
+    found_or_awaited : IsIn found n ⊎ (IsIn is_left.mask n × IsAwaited world first n narrowed)
+    found_or_awaited = ⊎_elim
+        (λ here. inl (subst (IsIn found) here (found_last child.mask q.to row found wide finds (subst (IsIn child.mask) (sym here) in_it))))
+        (λ awaited. inr (kept, awaited))
+        (reached_or_awaited world own first narrowed q.to n kept (all_leaving world.portals q.to child.untried leaving) still_ahead)
+
   -- a leaf that is next over the portal is found, or in what the cone leaves of the mask, and awaited there
   found_or_kept : (first : Portal) → IsAt world.portals p first → (n : ℕ) → IsIn frame.mask n → IsNextTo world.tree first frame n q → IsIn found n ⊎ (IsIn is_left.mask n × IsAwaited world first n narrowed)
   found_or_kept first first_is n in_mask next = ⊎_elim
       (λ is. inl is)
       (λ clear.
-      let met = has_places child.met in
       let never = not_in_if_clear found n clear in
-      let in_it = in_child n in_mask (next_wanted world p frame number row q q_is first first_is n next (λ is. never (found_keeps child.mask q.to row found wide finds n is))) in
-      let ahead = next.ahead child.state step met.0 (λ m there. (met_gains m).0 ((met.1 m).1 there)) in
-      let kept = is_left.keeps n in_it (ahead_in_cone world own p first first_is child found q.to n in_it never met.0 (λ m is. (met.1 m).0 is) ahead) in
-      ⊎_elim
-      (λ here. inl (subst (IsIn found) here (found_last child.mask q.to row found wide finds (subst (IsIn child.mask) (sym here) in_it))))
-      (λ awaited. inr (kept, awaited))
-      (reached_or_awaited world own first narrowed q.to n met.0 met.1 kept (all_leaving world.portals q.to child.untried leaving) ahead))
+      let wanted = next_wanted world p frame number row q q_is first first_is n next (λ is. never (found_keeps child.mask q.to row found wide finds n is)) in
+      let in_it = in_child n in_mask (wanted n (target_on_way world.tree first q n next.via)) in
+      found_or_awaited first first_is n in_it never
+      (ahead_with MeetsState world.tree first child.state q.to (LiesFartherOn world.tree next.via (MayEnter frame)) n (next.ahead child.state step) (MayEnter child)
+      (λ m farther. (
+        (λ again. ⊎_elim farther.other farther.has.0 ((met_gains m).0 again)),
+        in_child m farther.has.1 (wanted m farther.on_way),
+      ))))
       (in_or_clear found n)
 
   module _ (met_wide : length frame.met ≡ length (numbered_leaves world.tree)) (mask_wide : length child.mask ≡ length (numbered_leaves world.tree)) where

@@ -4,7 +4,6 @@ pub mod ChainEnds
 pub mod AwaitedLeaves
 pub mod Narrowing
 pub mod Weights
-pub mod MetLeaves
 pub mod TriedPortals
 pub mod Searches
 pub mod Walks

@@ -13,7 +13,7 @@ use Rattle.qm_chains.specs.inner.Pairs.{Pairs, IsPairRow, ArePairs}
 use Rattle.qm_separators.specs.PortalSteps.{BeginsWith}
 use Rattle.qm_separators.proofs.PortalStepLaws.{are_convex, first_is_state}
 use Rattle.qm_chains.proofs.PairRows.{pairs_more}
-use Rattle.qm_chains.proofs.ConeSamples.{world, found, via_on}
+use Rattle.qm_chains.proofs.ConeSamples.{world, found, last_wanted}
 
 -- what is seen via the way back shows the first room from the first door, and that is not in sight of it
 none_back : (n : ℕ) → IsSeenVia rooms out in_again n → ⊥
@@ -25,11 +25,11 @@ pub clear_row : IsPairRow world 0 found 1 (replicate 3 false)
 clear_row n wanted =
     let first_is : wanted.wanted.first ≡ out = cc in
     let back_is : wanted.portal ≡ in_again = cc in
-    let via : IsSeenVia rooms out wanted.portal n = subst (λ (p : Portal). IsSeenVia rooms p wanted.portal n) first_is wanted.wanted.via in
-    absurd (none_back n (subst (λ (q : Portal). IsSeenVia rooms out q n) back_is via))
+    let via : IsSeenVia rooms out wanted.portal wanted.wanted.target = subst (λ (p : Portal). IsSeenVia rooms p wanted.portal wanted.wanted.target) first_is wanted.wanted.via in
+    absurd (none_back wanted.wanted.target (subst (λ (q : Portal). IsSeenVia rooms out q wanted.wanted.target) back_is via))
 
 on_row : (row : List Bool) → IsPairRow world 0 found 2 row → IsIn row 2
-on_row row is = is 2 (record { portal = on; portal_is = refl; wanted = record { first = out; first_is = refl; via = via_on; not_found = λ is. absurd (let e : false ≡ true = is in cc) } })
+on_row row is = is 2 (record { portal = on; portal_is = refl; wanted = last_wanted })
 
 -- all rooms may be in sight of the first door, as far as a flow knows when it begins; then the clear row is put
 abbrev begun : Pairs

@@ -56,7 +56,7 @@ module _ (world : World) (p : ℕ) (IsSought : Portal → ℕ → Type 0) where
           (λ here. ⊎_elim
           (λ is. inl is)
           (λ ahead. inr (in_child child first n ahead))
-          (looked.none_missed first awaited.portal at (subst (λ (m : ℕ). IsAt world.portals m awaited.portal) (sym here) awaited.portal_is) n awaited.in_mask (record { new = awaited.next.new; via = awaited.next.via; not_stopped = awaited.next.not_stopped; ahead = awaited.next.ahead })))
+          (looked.none_missed first awaited.portal at (subst (λ (m : ℕ). IsAt world.portals m awaited.portal) (sym here) awaited.portal_is) n awaited.in_mask (record { may_enter = awaited.next.may_enter; via = awaited.next.via; not_stopped = awaited.next.not_stopped; ahead = awaited.next.ahead })))
           (λ later. inr (
             frame,
             Contains-append_left (below ++ frame ∷ []) (option_to_list child) frame (last_there below frame),
@@ -66,7 +66,7 @@ module _ (world : World) (p : ℕ) (IsSought : Portal → ℕ → Type 0) where
               untried = later;
               portal = awaited.portal;
               portal_is = awaited.portal_is;
-              next = record { new = awaited.next.new; via = awaited.next.via; not_stopped = awaited.next.not_stopped; ahead = awaited.next.ahead };
+              next = record { may_enter = awaited.next.may_enter; via = awaited.next.via; not_stopped = awaited.next.not_stopped; ahead = awaited.next.ahead };
             },
           ))
           (Contains-cons_cases number awaited.number frame.untried awaited.untried)

@@ -6,6 +6,8 @@ use Rattle.std.proofs.lemmas.Option.{slice_get_within}
 use Rattle.qm_lists.specs.WorkList.{IsIn}
 use Rattle.qm_contacts.specs.Portals.{Portal}
 use Rattle.qm_contacts.specs.World.{World, AreLeaving}
+use Rattle.qm_segments.specs.SeenVia.{LiesOnWay}
+use Rattle.qm_segments.proofs.ViaLaws.{target_on_way}
 use Rattle.qm_chains.specs.Shown.{IsAt}
 use Rattle.qm_chains.specs.inner.Cone.{LeadsOn}
 use Rattle.qm_chains.specs.inner.Frame.{Frame, StopsAt, not_passed, IsNextTo}
@@ -115,10 +117,11 @@ module _ (world : World) (p : ℕ) (frame : Frame) (number : ℕ) (row : List Bo
       (λ is. is)
       (λ clear. absurd (next.not_stopped (not_passed (λ passed. never q at (record {
         passed = passed;
-        new = next.new;
+        may_enter = next.may_enter;
         leaf = n;
         in_mask = in_mask;
-        wanted = record { first = first; first_is = first_is; via = next.via; not_found = not_in_if_clear row n clear };
+        not_found = not_in_if_clear row n clear;
+        wanted = record { first = first; first_is = first_is; target = n; via = next.via; on_way = target_on_way world.tree first q n next.via; not_found = not_in_if_clear row n clear };
       })))))
       (in_or_clear row n))
 
@@ -130,6 +133,6 @@ module _ (world : World) (p : ℕ) (frame : Frame) (number : ℕ) (row : List Bo
   pub tried_none : (MayHave : ℕ → ℕ → Type 0) → IsLookedThrough world p frame number row row None → IsTried world MayHave p frame number row row None
   tried_none MayHave looked = record { looked = looked; gained = λ n is. inl is; chain = tt; fewer = tt }
 
-  -- a leaf for which the portal is next, and that was not found, is wanted via it
-  pub next_wanted : (q : Portal) → IsAt world.portals number q → (first : Portal) → IsAt world.portals p first → (n : ℕ) → IsNextTo world.tree first frame n q → (IsIn row n → ⊥) → IsWantedVia world p row number n
-  next_wanted q q_is first first_is n next never = record { portal = q; portal_is = q_is; wanted = record { first = first; first_is = first_is; via = next.via; not_found = never } }
+  -- all that lies on the way to a leaf for which the portal is next, and that was not found, is wanted via it
+  pub next_wanted : (q : Portal) → IsAt world.portals number q → (first : Portal) → IsAt world.portals p first → (n : ℕ) (next : IsNextTo world.tree first frame n q) → (IsIn row n → ⊥) → (m : ℕ) → LiesOnWay world.tree next.via m → IsWantedVia world p row number m
+  next_wanted q q_is first first_is n next never m on_way = record { portal = q; portal_is = q_is; wanted = record { first = first; first_is = first_is; target = n; via = next.via; on_way = on_way; not_found = never } }

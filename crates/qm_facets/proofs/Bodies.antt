@@ -2,8 +2,8 @@
 use Rattle.std.proofs.Common.{◌+◌, Bool, true, false, ℤ, pos, ◌*ℤ◌, List, [], ◌∷◌, ◌++◌, All, Some, Contains, map, get_or, unsigned_abs, refl, ap, sym, ◌∙◌, subst, arith, ⊎_elim}
 use Rattle.std.specs.List.{AllZip}
 use Rattle.std.proofs.lemmas.Int.{ints}
-use Rattle.std.proofs.lemmas.List.Elements.{All-nil, All-cons, All-push, All-pop, All-weaker}
-use Rattle.qm_lists.proofs.Elements.{Contains-nil, Contains-first, Contains-later, Contains-cons_cases}
+use Rattle.std.proofs.lemmas.List.Elements.{All-nil, All-cons, All-push, All-pop, All-append, All-contains, All-weaker}
+use Rattle.qm_lists.proofs.Elements.{All-first_part, Contains-nil, Contains-first, Contains-later, Contains-cons_cases}
 use Rattle.qm_numbers.proofs.IntegerProducts.{linear, *ℤ_zero}
 use Rattle.qm_numbers.proofs.Signs.{by_sign}
 use Rattle.qm_space.specs.Point.{Point, IsInCube}
@@ -20,8 +20,8 @@ use Rattle.qm_space.proofs.Openness.{moved, value_moved, reach, moved_in_front, 
 use Rattle.qm_space.proofs.ClosedCells.{IsInClosedCell, cell_from_closed}
 use Rattle.qm_convex.specs.Winding.{Winding}
 use Rattle.qm_convex.specs.Cut.{IsPartWithin, HasNoneWithin}
-use Rattle.qm_convex.specs.World.{MissesCube, IsWorldPart, IsCubeFace}
-use Rattle.qm_convex.specs.Section.{IsSection}
+use Rattle.qm_convex.specs.World.{IsCubeFace}
+use Rattle.qm_convex.specs.Section.{IsSection, MissesCell}
 use Rattle.qm_convex.specs.inner.Facets.{IsOnFacet, Facet, IsFacet, AreFacetsOn, none, facet, hidden, AreCut, inward_of, facing_in}
 use Rattle.qm_convex.proofs.Among.{first_among, edges_among, edges_within}
 use Rattle.qm_convex.proofs.ImpliedPlanes.{facets_from_cell, cell_from_facets}
@@ -162,28 +162,38 @@ module _ (cell : List Plane) (facets : List Facet) (body : IsBody cell facets) w
         let q = own_part (flipped h) behind_point in
         crosses_cell own h in_front_point.point behind_point.point p.0 p.1 q.0 ((flipped_in_front h behind_point.point).0 q.1)
 
-    pub meets_cube : MissesCube h → ⊥
-    meets_cube misses = misses crossing.0 (walled crossing.0 crossing.2) crossing.1
+    -- bounds, each a wall of the cube or the plane of a facet
+    module _ (bounds : List Plane) (among : All (Contains (cube_walls ++ map inward_of facets)) bounds) where
+      in_bounds : (x : Point) → IsInCell own x → IsInCell bounds x
+      in_bounds x inside =
+          let ahead = All-append (λ g. IsInFront g x) cube_walls (map inward_of facets) (All-first_part (λ g. IsInFront g x) cube_walls body.planes inside) (facets_from_cell own own facets x body.are_facets inside) in
+          All-weaker (Contains (cube_walls ++ map inward_of facets)) (λ g. IsInFront g x) (λ g has. All-contains (λ k. IsInFront k x) (cube_walls ++ map inward_of facets) g ahead has) bounds among
 
-    pub meets_walls : (whole : Winding) → IsWorldPart whole h → HasNoneWithin whole (map inward_of facets) → ⊥
-    meets_walls whole world never =
-        never crossing.0 ((world.points crossing.0).1 (crossing.1, walled crossing.0 crossing.2)) (facets_from_cell own own facets crossing.0 body.are_facets crossing.2)
+      own_bounds : All (Contains own) bounds
+      own_bounds =
+          let all = All-append (Contains own) cube_walls (map inward_of facets) (first_among cube_walls body.planes) (walls_among own own facets body.are_facets) in
+          All-weaker (Contains (cube_walls ++ map inward_of facets)) (Contains own) (λ g has. All-contains (Contains own) (cube_walls ++ map inward_of facets) g all has) bounds among
 
-    -- what the facets' planes leave of the plane's part in the cube is its section
-    pub section_by_walls : (whole section : Winding) → IsWorldPart whole h → IsPartWithin section whole (map inward_of facets) → IsSection own h section
-    section_by_walls whole section world part = record {
-      convex = part.convex;
-      plane = part.plane ∙ world.plane;
-      points = λ x. (
-        (λ r.
-            let q = (part.points x).0 r in
-            let w = (world.points x).0 q.0 in
-            (w.0, cell_from_facets own facets some_point x body.are_facets body.has_point.in_cube.weight some_inside r.weight q.1)),
-        (λ q. (part.points x).1 ((world.points x).1 (q.0, walled x q.1), facets_from_cell own own facets x body.are_facets q.1)),
-      );
-      edges = edges_within section whole (map inward_of facets) own part (walls_among own own facets body.are_facets)
-          (edges_among whole cube_walls own (first_among cube_walls body.planes) world.edges);
-    }
+      pub meets_bounds : MissesCell bounds h → ⊥
+      meets_bounds misses = misses crossing.0 (walled crossing.0 crossing.2).weight crossing.1 (in_bounds crossing.0 crossing.2)
+
+      pub meets_walls : (whole : Winding) → IsSection bounds h whole → HasNoneWithin whole (map inward_of facets) → ⊥
+      meets_walls whole part never =
+          never crossing.0 ((part.points crossing.0).1 (crossing.1, in_bounds crossing.0 crossing.2)) (facets_from_cell own own facets crossing.0 body.are_facets crossing.2)
+
+      -- what the facets' planes leave of the plane's part between the bounds is its section
+      pub section_by_walls : (whole section : Winding) → IsSection bounds h whole → IsPartWithin section whole (map inward_of facets) → IsSection own h section
+      section_by_walls whole section between part = record {
+        convex = part.convex;
+        plane = part.plane ∙ between.plane;
+        points = λ x. (
+          (λ r.
+              let q = (part.points x).0 r in
+              (((between.points x).0 q.0).0, cell_from_facets own facets some_point x body.are_facets body.has_point.in_cube.weight some_inside r.weight q.1)),
+          (λ q. (part.points x).1 ((between.points x).1 (q.0, in_bounds x q.1), facets_from_cell own own facets x body.are_facets q.1)),
+        );
+        edges = edges_within section whole (map inward_of facets) own part (walls_among own own facets body.are_facets) (edges_among whole bounds own own_bounds between.edges);
+      }
 
     half_point : (side : Bool) → HasPoint (with_plane cell (turned side h))
     half_point true = in_front_point

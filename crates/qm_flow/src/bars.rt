@@ -1,4 +1,4 @@
-//! Portals via which nothing is seen from the first one of a flow, since the portals back do not show its leaf.
+//! Portals via which nothing is seen from the first one of a flow, since the portals back do not show both of its leaves.
 
 ghost use Rattle.std.specs.Prelude.{◌≡◌, ◌<◌, Bool, List, length, All, IsTrue};
 ghost use Rattle.qm_contacts.specs.NumberedLeaves.{numbered_leaves};
@@ -66,7 +66,8 @@ fn bar_portal<'a, S: RowSource>(flow: &mut Flow<'a>, source: &mut S, portal: u64
     flow.own.bar(portal, leaves);
 }
 
-/// Whether nothing is seen from the first portal via another one, as the row of the portal back tells.
+/// Whether nothing is seen from the first portal via another one: the row of the portal back lacks the leaf that the first portal
+/// leaves, or the one that it enters.
 fn is_unseen<S: RowSource>(world: &World, source: &mut S, first: u64, portal: u64) -> bool
     requires first { first < length world.now.portals }
     requires portal { portal < length world.now.portals }
@@ -74,5 +75,9 @@ fn is_unseen<S: RowSource>(world: &World, source: &mut S, first: u64, portal: u6
     ensures unseen { IsTrue result → IsUnseenVia world.now first portal }
     ensures on { S.goes_on source.old source.new }
 {
-    !has_leaf(source, world.back(portal), world.from(first))
+    let back = world.back(portal);
+    if !has_leaf(source, back, world.from(first)) {
+        return true;
+    }
+    !has_leaf(source, back, world.to(first))
 }

@@ -38,8 +38,8 @@ pub(crate) fn passes_cheap_tests<'a, S: RowSource>(
     Ok(may)
 }
 
-/// Whether a portal may lead on: it enters a leaf in which the chain was not, it may show a leaf of the mask that was not
-/// found, and the state lets it pass.
+/// Whether a portal may lead on: it enters a leaf of the mask in which the chain was not, it may show a leaf of the mask that was
+/// not found, and the state lets it pass.
 pub(crate) fn may_lead_on<'a, S: RowSource>(
     flow: &Flow<'a>,
     source: &mut S,
@@ -55,7 +55,8 @@ pub(crate) fn may_lead_on<'a, S: RowSource>(
     ensures none { result ≡ false → (q : Portal) → IsAt flow.now.world.now.portals portal q → LeadsOn flow.now.world.now flow.now.first frame.now found.now q → ⊥ }
     ensures on { S.goes_on source.old source.new }
 {
-    if frame.met.get(flow.world.to(portal)) {
+    let to = flow.world.to(portal);
+    if frame.met.get(to) || !frame.mask.get(to) {
         return false;
     }
     if !may_show(&flow.own, source, portal, &frame.mask, found, words) {

@@ -1,2 +1,3 @@
+pub mod AxialCells
 pub mod HalvesLeft
 pub mod WidenedExtents

@@ -1,1 +1,2 @@
+pub mod AxialPlanes
 pub mod PartedBodies

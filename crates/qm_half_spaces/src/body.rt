@@ -9,6 +9,8 @@ ghost use Rattle.qm_facets.specs.inner.Joined.{IsJoined};
 ghost use Rattle.qm_half_spaces.specs.HalfCells.{cell_of_halves};
 ghost use Rattle.qm_half_spaces.specs.inner.PartedBodies.{IsPartedBy, IsSectionOfBody, with_section};
 
+use crate::axial::axial_bounds;
+use crate::cutting::cut_facets;
 use crate::extents::Extents;
 use crate::facing::has_facet_in_front;
 use crate::half::Half;
@@ -107,8 +109,14 @@ impl Body {
     pub fn kept(self, plane: &Plane) -> Result<Option<Body>, AllocError>
         ensures { IfOk result (λ left. (cell : List SpacePlane) → IsBody cell self → IsBodyOrNone (with_plane cell plane.now) left) }
     {
-        let halves = self.split(plane)?;
-        Ok(halves.front)
+        let _ = &plane.nx;
+        if !has_facet_in_front(&self.facets, &plane.flipped()) {
+            return Ok(Some(self));
+        }
+        if !has_facet_in_front(&self.facets, plane) {
+            return Ok(None);
+        }
+        Ok(Some(self.front(plane)?))
     }
 
     /// The least box that has another one within and all of the body, its border with it.
@@ -136,6 +144,18 @@ impl Body {
         })
     }
 
+    /// What is in front, where the plane parts it.
+    fn front(self, plane: &Plane) -> Result<Body, AllocError>
+        requires { IsPartedBy plane.now self }
+        ensures { IfOk result (λ left. (cell : List SpacePlane) → IsBody cell self → IsBody (with_plane cell plane.now) left) }
+    {
+        let Body { facets } = self;
+        let alloc = *facets.allocator();
+        let section = section_of(alloc, &facets, plane)?;
+        let left = cut_facets(facets, plane)?;
+        Body::closed(left, *plane, section)
+    }
+
     /// The body of some facets and a section.
     fn closed(facets: Vec<Facet>, inward: Plane, section: Winding) -> Result<Body, AllocError>
         requires { IsSomeBody (with_section facets.items inward section) }
@@ -155,7 +175,8 @@ fn section_of(alloc: Global, facets: &[Facet], plane: &Plane) -> Result<Winding,
     ensures { IfOk result (IsSectionOfBody facets.now plane.now) }
 {
     let walls = walls_of(alloc, facets)?;
-    match Winding::on(alloc, plane)? {
+    let bounds = axial_bounds(alloc, &walls)?;
+    match Winding::between(alloc, plane, &bounds)? {
         Some(whole) => match whole.keep_all(&walls)? {
             Some(section) => Ok(section),
             None => unreachable!(),

@@ -2,7 +2,9 @@
 //! plane parts a body; and the box round it.
 #![tactic(auto)]
 
+mod axial;
 mod body;
+mod cutting;
 mod ends;
 mod extents;
 mod facing;

@@ -3,6 +3,7 @@ pub mod Traces
 pub mod Steps
 pub mod FilledCuboids
 pub mod Coordinates
+pub mod Halves
 pub mod Outlooks
 pub mod Looks
 pub mod Turns

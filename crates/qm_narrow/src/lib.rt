@@ -8,6 +8,7 @@ mod candidates;
 mod chain_state;
 mod corner_lists;
 mod crossing;
+mod divisor;
 mod edge;
 mod filled;
 pub mod laws;

@@ -6,7 +6,8 @@ ghost use Rattle.qm_space.specs.ThreePoints.{common_factor};
 ghost use Rattle.qm_geom.specs.Vectors.{HasSmallComponents};
 ghost use Rattle.qm_narrow.specs.inner.Lowest.{level, IsLowestOf, HasNoLowest};
 
-use qm_geom::{Plane, Vector, common_divisor};
+use crate::divisor::divisor_by_halves;
+use qm_geom::{Plane, Vector};
 
 /// The greatest component of a plane's normal.
 const GREATEST_COMPONENT: u64 = 1 << 26;
@@ -35,8 +36,8 @@ fn factor_of(normal: &Vector) -> u64
     ensures value { result ≡ common_factor (level normal.now) }
     ensures size { result < 2 ^ 63 }
 {
-    let of_two = common_divisor(normal.x.unsigned_abs(), normal.y.unsigned_abs());
-    common_divisor(of_two, normal.z.unsigned_abs())
+    let of_two = divisor_by_halves(normal.x.unsigned_abs(), normal.y.unsigned_abs());
+    divisor_by_halves(of_two, normal.z.unsigned_abs())
 }
 
 /// A component of a normal in lowest terms; `None` where it is too great.

@@ -14,8 +14,9 @@ pub mod UnfilledLeaves
 pub mod MarkedSegments
 pub mod EndRows
 pub mod OpenChains
-pub mod AheadLaws
 pub mod CutPaths
+pub mod EarlierSights
+pub mod AheadLaws
 pub mod ViaLaws
 pub mod CrossedWays
 pub mod RoomRows

@@ -7,10 +7,9 @@ use Rattle.qm_lists.proofs.Elements.{Contains-later, Contains-cons_cases}
 use Rattle.qm_lists.proofs.Reversed.{reverse-push}
 use Rattle.qm_space.specs.Point.{Point}
 use Rattle.qm_space.specs.Line.{IsBetween}
-use Rattle.qm_contents.specs.declared.contents.Contents.{Contents}
 use Rattle.qm_partition.specs.Tree.{Tree}
 use Rattle.qm_partition.specs.Counting.{node_planes}
-use Rattle.qm_partition.specs.LeafOfPoint.{IsOffNodePlanes}
+use Rattle.qm_partition.specs.LeafOfPoint.{IsOffNodePlanes, leaf_at}
 use Rattle.qm_partition.specs.Ways.{HasPoints}
 use Rattle.qm_contacts.specs.Meeting.{meetings}
 use Rattle.qm_contacts.specs.Touching.{Touching, AreTouchings}
@@ -22,12 +21,13 @@ use Rattle.qm_segments.specs.LeafNumber.{IsNumberOf}
 use Rattle.qm_segments.specs.Passes.{Passes, onward}
 use Rattle.qm_segments.specs.GoesThrough.{GoesThrough}
 use Rattle.qm_segments.specs.Sight.{IsInSight}
-use Rattle.qm_segments.specs.SeenVia.{IsSeenVia}
+use Rattle.qm_segments.specs.SeenVia.{IsSeenVia, LiesOnWay, LiesFartherOn}
 use Rattle.qm_segments.specs.Steps.{LetSegmentsThrough}
-use Rattle.qm_segments.specs.Ahead.{IsAhead}
-use Rattle.qm_segments.proofs.Betweenness.{between_turned, farther_between}
+use Rattle.qm_segments.specs.Ahead.{IsAheadOver}
+use Rattle.qm_segments.proofs.Betweenness.{farther_between}
 use Rattle.qm_segments.proofs.LeavesPassed.{NoneHasBoth, none_from, none_up_to}
-use Rattle.qm_segments.proofs.EndLeaves.{first_leaf}
+use Rattle.qm_segments.proofs.EndLeaves.{first_leaf, last_leaf_listed}
+use Rattle.qm_segments.proofs.EarlierSights.{earlier_part, earlier_generic, earlier_clear, begins_alike, shown_up_to}
 use Rattle.qm_segments.proofs.LeavesOnce.{leaves_once}
 use Rattle.qm_segments.proofs.GenericSegments.{later_part, later_generic, later_clear, turned_generic, turned_clear, generic_none}
 use Rattle.qm_segments.proofs.PortalsListed.{one_portal}
@@ -35,24 +35,8 @@ use Rattle.qm_segments.proofs.EnteredLeaves.{EntersNext, enters_next}
 use Rattle.qm_segments.proofs.AheadLaws.{same_number, same_place, entered_through}
 use Rattle.qm_segments.proofs.CutPaths.{IsCut, cut, IsReadBack, read_back}
 
--- ---- the earlier part of a segment
-
-abbrev earlier_part : Segment → Point → Segment
-earlier_part s x = record { from = s.from; to = x }
-
 module _ (tree : Tree) where
-  earlier_generic : (s : Segment) (x : Point) → IsGeneric tree s → IsBetween x s.from s.to → IsOffNodePlanes tree.planes tree.shape x → IsGeneric tree (earlier_part s x)
-  earlier_generic s x generic b off = turned_generic tree (later_part (turned_round s) x) (later_generic tree (turned_round s) x (turned_generic tree s generic) (between_turned x s.from s.to b) off)
-
-  earlier_clear : (has : Point → Contents → Type 0) (s : Segment) (x : Point) (contents : Contents) → IsBetween x s.from s.to → IsClear has tree s contents → IsClear has tree (earlier_part s x) contents
-  earlier_clear has s x contents b clear = turned_clear tree has (later_part (turned_round s) x) contents (later_clear tree has (turned_round s) x contents (between_turned x s.from s.to b) (turned_clear tree has s contents clear))
-
   -- ---- lists of leaves
-
-  -- up to an element that stands behind the first, the first stays
-  begins_alike : (a : ℕ) (rest before : List ℕ) (k : ℕ) (more : List ℕ) → a ∷ rest ≡ before ++ k ∷ more → (tail : List ℕ) × (before ++ k ∷ [] ≡ a ∷ tail)
-  begins_alike a rest [] k more is = let same : a ≡ k = cc in ([], ap (λ (j : ℕ). j ∷ []) (sym same))
-  begins_alike a rest (b ∷ before) k more is = let same : a ≡ b = cc in (before ++ k ∷ [], ap (λ (j : ℕ). j ∷ (before ++ k ∷ [])) (sym same))
 
   -- what stands behind an element stands behind the first
   behind_first : (a : ℕ) (rest before : List ℕ) (k : ℕ) (more : List ℕ) (j : ℕ) → a ∷ rest ≡ before ++ k ∷ more → Contains more j → Contains rest j
@@ -96,22 +80,19 @@ module _ (tree : Tree) where
     -- ---- the leaf that q leaves, in sight of p
 
     pub leaf_before_in_sight : IsInSight tree p q.from
-    leaf_before_in_sight =
-        let alike = begins_alike via.sight.entered via.sight.rest via.before via.left (via.entered ∷ via.after) via.leaves_are in
-        record {
-          segment = earlier_part s at_left.place;
-          generic = earlier_generic s at_left.place via.sight.generic at_left.between at_left.off;
-          contents = via.sight.contents;
-          not_solid = via.sight.not_solid;
-          clear = earlier_clear (LeafHas tree) s at_left.place via.sight.contents at_left.between via.sight.clear;
-          left = via.sight.left;
-          entered = via.sight.entered;
-          rest = alike.0;
-          passes = subst (λ (all : List ℕ). Passes tree s.from at_left.place all) (at_left.earlier_is ∙ ap (λ (all : List ℕ). via.sight.left ∷ all) alike.1) at_left.earlier;
-          from_is = via.sight.from_is;
-          to_is = via.sight.to_is;
-          last_is = via.left_is ∙ ap Some (sym (first_leaf tree at_left.place s.to via.left (via.entered ∷ via.after) at_left.off at_left.later));
-        }
+    leaf_before_in_sight = (shown_up_to tree p n via.sight via.before via.left (via.entered ∷ via.after) q.from via.leaves_are via.left_is).sight
+
+    -- ---- the leaf that is seen lies on the way itself
+
+    last_entered : (x y : Point) (a b : ℕ) (rest : List ℕ) → IsOffNodePlanes tree.planes tree.shape y → Passes tree x y (a ∷ b ∷ rest) → Contains (b ∷ rest) (leaf_at tree.planes tree.shape y)
+    last_entered x y a b rest off (onward {m = m} at inside apart more) = last_leaf_listed tree m y b rest off more
+
+    pub target_on_way : LiesOnWay tree via n
+    target_on_way = record {
+      place = leaf_at tree.planes tree.shape s.to;
+      entered = last_entered at_left.place s.to via.left via.entered via.after via.sight.generic.to_off at_left.later;
+      number_is = via.sight.last_is;
+    }
 
     -- ---- from the other end
 
@@ -129,14 +110,14 @@ module _ (tree : Tree) where
     up_to_entered = earlier_part s at_entered.place
 
     up_to_generic : IsGeneric tree up_to_entered
-    up_to_generic = earlier_generic s at_entered.place via.sight.generic at_entered.between at_entered.off
+    up_to_generic = earlier_generic tree s at_entered.place via.sight.generic at_entered.between at_entered.off
 
     up_to_clear : IsClear (LeafHas tree) tree up_to_entered via.sight.contents
-    up_to_clear = earlier_clear (LeafHas tree) s at_entered.place via.sight.contents at_entered.between via.sight.clear
+    up_to_clear = earlier_clear tree (LeafHas tree) s at_entered.place via.sight.contents at_entered.between via.sight.clear
 
     -- and of that the part from a place in the leaf that p enters on
     abbrev alike : (tail : List ℕ) × (via.before ++ via.left ∷ [] ≡ via.sight.entered ∷ tail)
-    alike = begins_alike via.sight.entered via.sight.rest via.before via.left (via.entered ∷ via.after) via.leaves_are
+    alike = begins_alike tree via.sight.entered via.sight.rest via.before via.left (via.entered ∷ via.after) via.leaves_are
 
     abbrev second_tail : List ℕ
     second_tail = alike.0 ++ via.entered ∷ []
@@ -159,10 +140,10 @@ module _ (tree : Tree) where
           let way_back = read_back tree s.from at_entered.place at_entered.first at_entered.others at_entered.earlier in
           record {
             segment = turned_round (earlier_part s at_entered.place);
-            generic = turned_generic tree (earlier_part s at_entered.place) (earlier_generic s at_entered.place via.sight.generic at_entered.between at_entered.off);
+            generic = turned_generic tree (earlier_part s at_entered.place) (earlier_generic tree s at_entered.place via.sight.generic at_entered.between at_entered.off);
             contents = via.sight.contents;
             not_solid = via.sight.not_solid;
-            clear = turned_clear tree (LeafHas tree) (earlier_part s at_entered.place) via.sight.contents (earlier_clear (LeafHas tree) s at_entered.place via.sight.contents at_entered.between via.sight.clear);
+            clear = turned_clear tree (LeafHas tree) (earlier_part s at_entered.place) via.sight.contents (earlier_clear tree (LeafHas tree) s at_entered.place via.sight.contents at_entered.between via.sight.clear);
             left = via.entered;
             entered = via.left;
             rest = reverse (via.sight.left ∷ via.before);
@@ -192,17 +173,19 @@ module _ (tree : Tree) where
 -- ---- a step from the first portal straight to the other
 
 module _ (tree : Tree) (have : HasPoints tree) (touchings : List Touching) (are : AreTouchings tree.planes (meetings tree) touchings) {State : Type 0} (begins : Portal → State → Type 0) (goes : State → Portal → State → Type 0) (blocks : State → Portal → Type 0) (meets : Segment → Point → State → Type 0) (lets : LetSegmentsThrough begins goes blocks (portals_of tree touchings) meets) where
-  -- it does not block, and after it the leaf is ahead
-  pub record IsPair (p e : Portal) (state : State) (k : ℕ) : Type 0 where
+  -- it does not block, and after it the leaf is ahead, over leaves of that way that neither portal leaves or enters; all that lies
+  -- on the way is there
+  pub record IsPair (p e : Portal) (state : State) (k : ℕ) (via : IsSeenVia tree p e k) : Type 0 where
     pub not_blocked : blocks state e → ⊥
-    pub ahead : (next : State) → goes state e next → IsAhead meets tree p next e.to (e.to ∷ e.from ∷ p.to ∷ p.from ∷ []) k
+    pub ahead : (next : State) → goes state e next → IsAheadOver meets tree p next e.to (LiesFartherOn tree via (λ m. Contains (e.from ∷ p.to ∷ p.from ∷ []) m → ⊥)) k
+    pub all_ahead : (next : State) (step : goes state e next) (j : ℕ) → Contains (via.entered ∷ via.after) j → Contains ((ahead next step).here ∷ (ahead next step).rest) j
 
   module _ (p e : Portal) (p_listed : Contains (portals_of tree touchings) p) (e_listed : Contains (portals_of tree touchings) e) (state : State) (begun : begins p state) (k : ℕ) (via : IsSeenVia tree p e k) where
     abbrev sight : IsInSight tree p k
     sight = via.sight
 
     -- by the places at which the segment goes through both
-    by_places : (x z y : Point) → EntersNext tree via.sight.segment via.sight.segment.from x via.sight.left via.sight.entered via.sight.rest → IsBetween z x via.sight.segment.to → EntersNext tree via.sight.segment z y via.left via.entered via.after → IsPair p e state k
+    by_places : (x z y : Point) → EntersNext tree via.sight.segment via.sight.segment.from x via.sight.left via.sight.entered via.sight.rest → IsBetween z x via.sight.segment.to → EntersNext tree via.sight.segment z y via.left via.entered via.after → IsPair p e state k via
     by_places x z y first between second =
         let s = via.sight.segment in
         let p_entered = entered_through tree have touchings are p k sight s.from x sight.left sight.entered sight.rest first in
@@ -228,26 +211,28 @@ module _ (tree : Tree) (have : HasPoints tree) (touchings : List Touching) (are 
             leaves_are = via.leaves_are ∙ sym (append_assoc via.before (via.left ∷ []) (via.entered ∷ via.after));
             passes = second.more;
             here_is = via.entered_is;
-            not_again = λ i j there number in_met.
+            each_has = λ i j there number.
                 let later = Contains-later via.entered j via.after there in
                 let in_rest = behind_first tree sight.entered sight.rest via.before via.left (via.entered ∷ via.after) j via.leaves_are later in
-                ⊎_elim
-                (λ is. All-contains (λ b. via.entered ≢ b) via.after j once.1.0 there (same_place tree i via.entered j (subst (λ (h : ℕ). IsNumberOf tree h via.entered) is via.entered_is) number))
-                (λ more. ⊎_elim
-                (λ is. All-contains (λ b. via.left ≢ b) (via.entered ∷ via.after) j once.0 later (same_place tree i via.left j (subst (λ (h : ℕ). IsNumberOf tree h via.left) is via.left_is) number))
-                (λ more. ⊎_elim
-                (λ is. All-contains (λ b. sight.entered ≢ b) sight.rest j all_once.1.0 in_rest (same_place tree i sight.entered j (subst (λ (h : ℕ). IsNumberOf tree h sight.entered) is sight.to_is) number))
-                (λ more. ⊎_elim
-                (λ is. All-contains (λ b. sight.left ≢ b) (sight.entered ∷ sight.rest) j all_once.0 (Contains-later sight.entered j sight.rest in_rest) (same_place tree i sight.left j (subst (λ (h : ℕ). IsNumberOf tree h sight.left) is sight.from_is) number))
-                (λ none. let range = none.1 in omega arith)
-                (Contains-cons_cases p.from i [] more))
-                (Contains-cons_cases p.to i (p.from ∷ []) more))
-                (Contains-cons_cases e.from i (p.to ∷ p.from ∷ []) more))
-                (Contains-cons_cases e.to i (e.from ∷ p.to ∷ p.from ∷ []) in_met);
+                record {
+                  other = λ is. All-contains (λ b. via.entered ≢ b) via.after j once.1.0 there (same_place tree i via.entered j (subst (λ (h : ℕ). IsNumberOf tree h via.entered) is via.entered_is) number);
+                  on_way = record { place = j; entered = later; number_is = number };
+                  has = λ in_met. ⊎_elim
+                      (λ is. All-contains (λ b. via.left ≢ b) (via.entered ∷ via.after) j once.0 later (same_place tree i via.left j (subst (λ (h : ℕ). IsNumberOf tree h via.left) is via.left_is) number))
+                      (λ more. ⊎_elim
+                      (λ is. All-contains (λ b. sight.entered ≢ b) sight.rest j all_once.1.0 in_rest (same_place tree i sight.entered j (subst (λ (h : ℕ). IsNumberOf tree h sight.entered) is sight.to_is) number))
+                      (λ more. ⊎_elim
+                      (λ is. All-contains (λ b. sight.left ≢ b) (sight.entered ∷ sight.rest) j all_once.0 (Contains-later sight.entered j sight.rest in_rest) (same_place tree i sight.left j (subst (λ (h : ℕ). IsNumberOf tree h sight.left) is sight.from_is) number))
+                      (λ none. let range = none.1 in omega arith)
+                      (Contains-cons_cases p.from i [] more))
+                      (Contains-cons_cases p.to i (p.from ∷ []) more))
+                      (Contains-cons_cases e.from i (p.to ∷ p.from ∷ []) in_met);
+                };
           };
+          all_ahead = λ next step j there. there;
         }
 
-    pub pair : IsPair p e state k
+    pub pair : IsPair p e state k via
     pair =
         let s = via.sight.segment in
         let none = generic_none tree s via.sight.generic in

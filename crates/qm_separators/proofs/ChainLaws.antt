@@ -12,13 +12,14 @@ use Rattle.qm_coarse_rows.specs.CoarseRow.{IsInCoarseRow}
 use Rattle.qm_segments.specs.Segment.{Segment}
 use Rattle.qm_segments.specs.GoesThrough.{GoesThrough}
 use Rattle.qm_segments.specs.CrossesWay.{CrossesWay}
+use Rattle.qm_segments.specs.LeafNumber.{IsNumberOf}
 use Rattle.qm_segments.specs.Sight.{IsInSight}
 use Rattle.qm_segments.specs.SeenVia.{IsSeenVia}
-use Rattle.qm_segments.specs.Ahead.{IsAhead}
+use Rattle.qm_segments.specs.Ahead.{IsAheadOver, IsAhead}
 use Rattle.qm_segments.specs.Route.{Route}
 use Rattle.qm_segments.specs.Steps.{LetSegmentsThrough, LeadOnOrBlock}
 use Rattle.qm_segments.proofs.OpenChains.{narrowed_bound_in_coarse, bound_has_sight}
-use Rattle.qm_segments.proofs.AheadLaws.{start_ahead, next_ahead, route_ahead, IsNext, IsOnRoute}
+use Rattle.qm_segments.proofs.AheadLaws.{start_ahead, next_ahead, route_ahead, last_place, last_listed, IsNext, IsOnRoute}
 use Rattle.qm_segments.proofs.ViaLaws.{pair, IsPair}
 use Rattle.qm_segments.proofs.CrossedWays.{crossed_way_in_bound}
 use Rattle.qm_separators.specs.ChainState.{ChainState}
@@ -51,14 +52,18 @@ module _ (tree : Tree) (have : HasPoints tree) (touchings : List Touching) (are 
   pub ahead_at_start : (p : Portal) (k : ℕ) (state : ChainState) → Contains (portals_of tree touchings) p → BeginsWith p state → IsInSight tree p k → IsAhead MeetsState tree p state p.to (p.to ∷ p.from ∷ []) k
   ahead_at_start p k state listed begun sight = start_ahead tree have touchings are BeginsWith StepsThrough BlocksAt MeetsState lets p listed k state begun sight
 
-  module _ (p : Portal) (state : ChainState) (n : ℕ) (met_before : List ℕ) (k : ℕ) (ahead : IsAhead MeetsState tree p state n met_before k) where
-    pub reached_or_next : (n ≡ k) ⊎ IsNext tree have touchings are BeginsWith StepsThrough BlocksAt MeetsState lets p state n met_before k
-    reached_or_next = next_ahead tree have touchings are BeginsWith StepsThrough BlocksAt MeetsState lets p state n met_before k ahead
+  module _ (p : Portal) (state : ChainState) (n : ℕ) (Has : ℕ → Type 0) (k : ℕ) (ahead : IsAheadOver MeetsState tree p state n Has k) where
+    pub reached_or_next : (n ≡ k) ⊎ IsNext tree have touchings are BeginsWith StepsThrough BlocksAt MeetsState lets p state n Has k
+    reached_or_next = next_ahead tree have touchings are BeginsWith StepsThrough BlocksAt MeetsState lets p state n Has k ahead
 
-    -- over portals that the state lets pass
-    pub route_on : Route (portals_of tree touchings) (IsOnRoute tree have touchings are BeginsWith StepsThrough BlocksAt MeetsState lets p state n met_before k LetsPass (lets_pass (portals_of tree touchings) (are_convex tree touchings are) state)) n k
-    route_on = route_ahead tree have touchings are BeginsWith StepsThrough BlocksAt MeetsState lets p state n met_before k LetsPass (lets_pass (portals_of tree touchings) (are_convex tree touchings are) state) ahead
+    -- to each leaf on the way, over portals that the state lets pass
+    pub route_on : (m j : ℕ) → IsNumberOf tree m j → Contains (ahead.here ∷ ahead.rest) j →
+        Route (portals_of tree touchings) (IsOnRoute tree have touchings are BeginsWith StepsThrough BlocksAt MeetsState lets p state n Has k LetsPass (lets_pass (portals_of tree touchings) (are_convex tree touchings are) state)) n m
+    route_on = route_ahead tree have touchings are BeginsWith StepsThrough BlocksAt MeetsState lets p state n Has k LetsPass (lets_pass (portals_of tree touchings) (are_convex tree touchings are) state) ahead
+
+    pub route_to_last : Route (portals_of tree touchings) (IsOnRoute tree have touchings are BeginsWith StepsThrough BlocksAt MeetsState lets p state n Has k LetsPass (lets_pass (portals_of tree touchings) (are_convex tree touchings are) state)) n k
+    route_to_last = route_on k (last_place MeetsState tree p state n Has k ahead) ahead.sight.last_is (last_listed MeetsState tree p state n Has k ahead)
 
   -- the step from a portal straight to one via which a leaf is seen does not block, and after it the leaf is ahead
-  pub straight_on : (p e : Portal) (state : ChainState) (k : ℕ) → Contains (portals_of tree touchings) p → Contains (portals_of tree touchings) e → BeginsWith p state → IsSeenVia tree p e k → IsPair tree have touchings are BeginsWith StepsThrough BlocksAt MeetsState lets p e state k
+  pub straight_on : (p e : Portal) (state : ChainState) (k : ℕ) → Contains (portals_of tree touchings) p → Contains (portals_of tree touchings) e → BeginsWith p state → (via : IsSeenVia tree p e k) → IsPair tree have touchings are BeginsWith StepsThrough BlocksAt MeetsState lets p e state k via
   straight_on p e state k p_listed e_listed begun via = pair tree have touchings are BeginsWith StepsThrough BlocksAt MeetsState lets p e p_listed e_listed state begun k via

@@ -8,18 +8,19 @@ use Rattle.qm_contacts.specs.Portals.{Portal}
 use Rattle.qm_contacts.specs.World.{World}
 use Rattle.qm_separators.specs.PortalSteps.{LetsPass}
 use Rattle.qm_chains.specs.Shown.{IsAt}
-use Rattle.qm_chains.specs.inner.Frame.{Frame}
+use Rattle.qm_chains.specs.inner.Frame.{Frame, MayEnter}
 use Rattle.qm_chains.specs.inner.Wanted.{IsWanted}
 
 -- The cone of a frame, in a flow from the portal of number p: the leaves that a chain may still come to from where it ends.
 
--- the portal q may lead on from a frame: the state lets it pass, it enters a leaf that was not met, and some leaf is wanted
--- via it that the frame may still show
+-- the portal q may lead on from a frame: the state lets it pass, the chain may enter the leaf that it enters, and some leaf is
+-- wanted via it that the frame may still show, and that was not found
 pub record LeadsOn (world : World) (p : ℕ) (frame : Frame) (found : List Bool) (q : Portal) : Type 0 where
   pub passed : LetsPass frame.state q
-  pub new : IsIn frame.met q.to → ⊥
+  pub may_enter : MayEnter frame q.to
   pub leaf : ℕ
   pub in_mask : IsIn frame.mask leaf
+  pub not_found : IsIn found leaf → ⊥
   pub wanted : IsWanted world p found q leaf
 
 -- one of the portals of these numbers leads on into the leaf

@@ -1,13 +1,13 @@
-use Rattle.std.specs.Prelude.{◌≡◌, ◌↔◌, ◌⊎◌, ℕ, Bool, List, [], ◌∷◌, ◌++◌, All, length, Contains}
+use Rattle.std.specs.Prelude.{◌≡◌, ◌↔◌, ℕ, Bool, List, [], ◌∷◌, ◌++◌, All, length, Contains}
 use Rattle.std.specs.List.{AllZip}
 use Rattle.qm_lists.specs.WorkList.{IsIn}
 use Rattle.qm_partition.specs.Tree.{Tree}
 use Rattle.qm_contacts.specs.NumberedLeaves.{numbered_leaves}
 use Rattle.qm_contacts.specs.Portals.{Portal}
 use Rattle.qm_contacts.specs.World.{World}
-use Rattle.qm_segments.specs.SeenVia.{IsSeenVia}
+use Rattle.qm_segments.specs.SeenVia.{IsSeenVia, LiesFartherOn}
 use Rattle.qm_segments.specs.OpenChain.{leaves_met, IsOpenChain}
-use Rattle.qm_segments.specs.Ahead.{IsAhead}
+use Rattle.qm_segments.specs.Ahead.{IsAheadOver}
 use Rattle.qm_separators.specs.ChainState.{ChainState}
 use Rattle.qm_separators.specs.PortalSteps.{BeginsWith, StepsThrough, BlocksAt, LetsPass, MeetsState}
 use Rattle.qm_chains.specs.Shown.{IsAt}
@@ -47,14 +47,18 @@ pub data StopsAt (state : ChainState) (q : Portal) : Type 0 where
   not_passed : (LetsPass state q → ⊥) → StopsAt state q
   blocked : BlocksAt state q → StopsAt state q
 
--- the portal q is next on the way to the leaf of number n: it leads to a leaf that was not met, the leaf is seen via it from
--- the first portal, the chain does not stop there, and after the step the leaf is ahead of the first portal's chain
+-- a chain may enter the leaf of number n from a frame: it was not met, and it may still be shown
+abbrev pub MayEnter : Frame → ℕ → Type 0
+MayEnter frame n = (IsIn frame.met n → ⊥) × IsIn frame.mask n
+
+-- The portal q is next on the way to the leaf of number n: the chain may enter the leaf that q enters, the leaf of number n is
+-- seen via q from the first portal, and the chain does not stop there. After the step that leaf is ahead, farther on along that
+-- way, over leaves that the chain may enter.
 pub record IsNextTo (tree : Tree) (first : Portal) (frame : Frame) (n : ℕ) (q : Portal) : Type 0 where
-  pub new : IsIn frame.met q.to → ⊥
+  pub may_enter : MayEnter frame q.to
   pub via : IsSeenVia tree first q n
   pub not_stopped : StopsAt frame.state q → ⊥
-  pub ahead : (next : ChainState) → StepsThrough frame.state q next → (met : List ℕ) →
-      ((m : ℕ) → Contains met m → (q.to ≡ m) ⊎ IsIn frame.met m) → IsAhead MeetsState tree first next q.to met n
+  pub ahead : (next : ChainState) → StepsThrough frame.state q next → IsAheadOver MeetsState tree first next q.to (LiesFartherOn tree via (MayEnter frame)) n
 
 -- the leaf of number n is awaited here: it may still be shown, by some portal that is still to be tried
 pub record IsAwaited (world : World) (first : Portal) (n : ℕ) (frame : Frame) : Type 0 where

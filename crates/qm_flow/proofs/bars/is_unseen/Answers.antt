@@ -1,17 +1,15 @@
-use Rattle.std.proofs.Common.{◌≡◌, true, false, sym, subst, ◌∙◌}
+use Rattle.std.proofs.Common.{inl, inr, ◌∙◌}
 use Rattle.std.proofs.lemmas.Bool.{not-true}
-use Rattle.qm_contacts.specs.World.{World}
-use Rattle.qm_chains.specs.inner.OwnRows.{IsInSightAt}
 use Rattle.qm_flow.proofs.Barred.{unseen_via}
 use Rattle.qm_flow.proofs.bars.is_unseen.Goals as goal
 
+pub returns-then-not-has_leaf-clause-unseen : goal.returns-then-not-has_leaf-clause-unseen
+returns-then-not-has_leaf-clause-unseen g c _ =
+    let left = c.from.ensures.value in
+    unseen_via c.args.world.now (g.S.RowSource.world c.args.source.now) c.args.first c.args.portal c.back-back.result c.from.result left.0 c.has_leaf.result c.requires.same_world left.1 c.back-back.ensures.back (inl left.2) c.has_leaf.ensures.sound c.if-not-has_leaf.true
+
 pub returns-clause-unseen : goal.returns-clause-unseen
 returns-clause-unseen g c is =
-    let world = c.args.world.now in
-    let back = c.back.result in
-    let from = c.from.ensures.value in
-    unseen_via world c.args.first c.args.portal back from.0 from.1 c.back.ensures.back
-    (λ seen.
-    let at = subst (λ (w : World). IsInSightAt w back c.from.result) (sym c.requires.same_world) (subst (IsInSightAt world back) (sym from.2) seen) in
-    let never : true ≡ false = sym (c.has_leaf.ensures.sound at.portal at.portal_is at.sight) ∙ not-true c.has_leaf.result is in
-    cc)
+    let entered = c.to.ensures.value in
+    let same = g.met.S.RowSource.same_world c.args.source.now c.has_leaf.new.source c.has_leaf.ensures.on ∙ c.requires.same_world in
+    unseen_via c.args.world.now (g.S.RowSource.world c.has_leaf.new.source) c.args.first c.args.portal c.back-back.result c.to.result entered.0 c.has_leaf-2.result same entered.1 c.back-back.ensures.back (inr entered.2) c.has_leaf-2.ensures.sound (not-true c.has_leaf-2.result is)

@@ -59,7 +59,7 @@ returns-then-not-may_show-clause-none g c is q at leads =
     let portal = c.args.portal in
     let nothing = subst (λ (mask : List Bool). ShowsNothingNew (MustHave world pairs.own portal) mask found) (ap (λ (f : Frame). f.mask) c.frame.view_is)
     ((subst (λ (w : World). ShowsNothingNew (MustHave w c.args.flow.now.own portal) c.frame.inside.mask found) c.requires.of_world.same_world (c.may_show.ensures.none c.if-not-may_show.true))) in
-    none_wanted world found pairs c.requires.of_world.pairs_are portal c.args.frame.now.mask nothing leads.leaf leads.in_mask (record { portal = q; portal_is = at; wanted = leads.wanted })
+    none_wanted world found pairs c.requires.of_world.pairs_are portal c.args.frame.now.mask nothing leads.leaf leads.in_mask leads.not_found (record { portal = q; portal_is = at; wanted = leads.wanted })
 
 -- the state does not let it pass, or does
 

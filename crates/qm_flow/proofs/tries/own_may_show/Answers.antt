@@ -47,7 +47,7 @@ returns-clause-none g c is q at leads =
     let nothing = subst (λ (mask : List Bool). ShowsNothingNew (MustHave world pairs.own portal) mask row) (ap (λ (f : Frame). f.mask) c.frame.view_is)
     ((subst (λ (w : World). ShowsNothingNew (MustHave w c.do_what_is_due.new.flow.own portal) c.frame.inside.mask row) same (c.may_show-may.ensures.none is))) in
     let same_first = c.in_ok-do_what_is_due.ensures.flow.pairs.same_first ∙ ap (λ (pairs : Pairs). pairs.first) (own_same (pairs_of c.args.flow.now) (pairs_of c.args.flow.now) c.note.new.self refl c.note.ensures) in
-    none_wanted world row pairs c.in_ok-do_what_is_due.ensures.flow.pairs.are portal c.args.frame.now.mask nothing leads.leaf leads.in_mask
+    none_wanted world row pairs c.in_ok-do_what_is_due.ensures.flow.pairs.are portal c.args.frame.now.mask nothing leads.leaf leads.in_mask leads.not_found
     (record { portal = q; portal_is = at; wanted = subst (λ (first : ℕ). IsWanted world first row q leads.leaf) (sym same_first) leads.wanted })
 
 pub returns-clause-flow : goal.returns-clause-flow
