@@ -23,7 +23,7 @@ def words_of(words):
                         "may be given again")
     parser.add_argument("--no-bevels", action="store_false", dest="bevels", help="adds no axial faces to the brushes of the .bsp")
     parser.add_argument("--q3", action="store_true", help="reads a map of the Quake 3 family, without its patches")
-    parser.add_argument("--mend", action="store_true", help="compiles a copy in which faces that would be refused have points near by")
+    parser.add_argument("--mend", action="store_true", help="compiles a copy in which refused faces get nearby points")
     parser.add_argument("--all", action="store_true", help="lists every face that is refused, and not the first fault alone")
     parser.add_argument("--out", metavar="FOLDER", help="writes the tree and the .bsp there; without it they stand beside the level")
     parser.add_argument("--name", metavar="NAME", type=plain_name, help="writes NAME.tree and so on in place of LEVEL.tree")

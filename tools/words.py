@@ -25,11 +25,11 @@ def words_of(parser, words):
     plan_words.add_argument("--trace", metavar="X,Y,Z,U,V,W", type=segment, help="shows the leaves along the segment from one point to "
                             "another, or with --hull those of that hull")
     points_words = command(commands, "points", "the line of a leak, as a point file for editors")
-    points_words.add_argument("--leak", metavar="TRAIL", type=trail, required=True, help="the same")
+    points_words.add_argument("--leak", metavar="TRAIL", type=trail, required=True, help='the numbers after `trail: `, as "8 6 0"')
     view_words = command(commands, "view", "a page in which you walk through the level, for a browser")
     view_words.add_argument("--at", metavar="X,Y,Z", type=place, help="where you begin")
     view_words.add_argument("--map", metavar="MAP", help="marks the entities of a map; without --at you begin at its player start; "
-                            "with faces in OUT walls have a colour for each texture")
+                            "if OUT has faces, walls have a colour for each texture")
     view_words.add_argument("--leak", metavar="TRAIL", type=trail, help="has the line of a leak")
     view_words.add_argument("--prt", metavar="FILE", help="has the portals of a listing")
     picture_words = command(commands, "picture", "a view from a place, as an SVG picture")
@@ -38,19 +38,19 @@ def words_of(parser, words):
     picture_words.add_argument("--row", metavar="X,Y,Z", type=place, nargs="?", const=True,
                                help="shows what the row of the leaf there holds; without a place, of your own leaf")
     picture_words.add_argument("--leak", metavar="TRAIL", type=trail, help="has the line of a leak")
-    picture_words.add_argument("--map", metavar="MAP", help="with faces in OUT walls have a colour for each texture, and lines where the "
+    picture_words.add_argument("--map", metavar="MAP", help="if OUT has faces, walls have a colour for each texture, and lines where the "
                                "faces of brushes end")
     obj_words = command(commands, "obj", "the faces of a tree as a Wavefront OBJ, with a group for each texture")
     obj_words.add_argument("--map", metavar="MAP", required=True, help="the map from which the tree was made")
     obj_words.add_argument("--out", metavar="FILE", help="writes it to FILE")
     command(commands, "json", "planes, nodes, leaves and rows, for other programs")
     world_words = command(commands, "world", "a map with the brushes of its groups in the world", "MAP", "a map, as an editor writes it")
-    world_words.add_argument("--out", metavar="FILE", help="writes it to FILE, for editors that know no `>`")
+    world_words.add_argument("--out", metavar="FILE", help="writes it to FILE, for editors without `>`")
     command(commands, "faces", "the faces of a map whose points the compiler refuses, with points near by that it takes", "MAP",
             "a map, as an editor writes it")
     bevels_words = command(commands, "bevels", "a map with bevel faces on the brushes that stop a player", "MAP",
                            "a map, as an editor writes it")
-    bevels_words.add_argument("--out", metavar="FILE", help="writes it to FILE, for editors that know no `>`")
+    bevels_words.add_argument("--out", metavar="FILE", help="writes it to FILE, for editors without `>`")
     return parser.parse_args(words)
 
 
