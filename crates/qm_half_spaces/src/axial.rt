@@ -13,6 +13,7 @@ use qm_space::WORLD_EXTENT;
 use std::alloc::{AllocError, Global};
 
 /// Of the cube's walls and some planes, those that lie farthest in across each axis, in the order of the walls.
+/// Any of them would do: the farther in they lie, the less is left to cut.
 pub(crate) fn axial_bounds(alloc: Global, planes: &[Plane]) -> Result<Vec<Plane>, AllocError>
     ensures { IfOk result (λ bounds. AllZip (IsBoundAmong planes.now) bounds.items cube_walls) }
 {
