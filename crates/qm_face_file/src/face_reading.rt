@@ -7,9 +7,8 @@ ghost use Rattle.qm_face_file.specs.Answers.{IsFaultOfFaces, AnswersFaces};
 
 use crate::face_form::is_face;
 use crate::faces_fault::FacesFault;
-use crate::field_reading::{i64_at, u32_at, u64_at};
 use qm_face_layout::FaceRecord;
-use qm_file::TreeFile;
+use qm_file::{TreeFile, i64_at, u32_at, u64_at};
 use qm_lists::Items;
 use std::alloc::Global;
 

@@ -1,6 +1,7 @@
 ghost use Rattle.std.specs.Prelude.{◌≡◌};
-ghost use Rattle.qm_face_file.specs.declared.faces_fault.FacesFault.TheVariants.{Memory};
+ghost use Rattle.qm_face_file.specs.declared.faces_fault.FacesFault.TheVariants.{Short, Memory};
 
+use qm_file::CutOff;
 use std::alloc::{AllocError, AllocFailed};
 use thiserror::Error;
 
@@ -33,5 +34,13 @@ impl<T: Drop> From<AllocFailed<T>> for FacesFault {
 
     fn from(_fault: AllocFailed<T>) -> FacesFault {
         FacesFault::Memory
+    }
+}
+
+impl From<CutOff> for FacesFault {
+    ghost from_gives = { λ cut fault. fault ≡ Short cut.offset };
+
+    fn from(cut: CutOff) -> FacesFault {
+        FacesFault::Short { offset: cut.offset }
     }
 }

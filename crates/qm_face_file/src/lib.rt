@@ -6,7 +6,6 @@ mod face_form;
 mod face_reading;
 mod faces_fault;
 mod field_bytes;
-mod field_reading;
 mod laws;
 mod named_planes;
 mod numbering;

@@ -5,9 +5,8 @@ ghost use Rattle.qm_face_file.specs.Answers.{IsFaultOfFaces, AnswersFaces};
 
 use crate::face_reading::all_faces_at;
 use crate::faces_fault::FacesFault;
-use crate::field_reading::u64_at;
 use qm_face_layout::FaceRecord;
-use qm_file::TreeFile;
+use qm_file::{TreeFile, u64_at};
 use qm_lists::Items;
 use std::alloc::Global;
 

@@ -1,6 +1,7 @@
 use Rattle.std.specs.Prelude.{◌≡◌, ℕ, Result, Ok, Err}
 use Rattle.qm_formats.specs.Layout.{Decoded, got, bad}
 use Rattle.qm_formats.specs.FileParts.{FileFaultKind, short, magic, counts, header_form, plane_form, node_order, leaf_form, row_form, section_form, trailing, too_long}
+use Rattle.qm_file.specs.declared.field_reading.CutOff.{CutOff}
 use Rattle.qm_file.specs.declared.file_fault.FileFault.{FileFault}
 use Rattle.qm_file.specs.declared.file_fault.FileFault.TheVariants as faults
 
@@ -23,3 +24,8 @@ IsFaultOfFile faults.Memory answer = Unit {0}
 abbrev pub AnswersTreeFile : {X Y : Type 0} → (X → Y) → (X → ℕ) → Result X FileFault → Decoded FileFaultKind Y → Type 0
 AnswersTreeFile value next (Ok x) answer = answer ≡ got (value x) (next x)
 AnswersTreeFile value next (Err fault) answer = IsFaultOfFile fault answer
+
+-- what is answered of a field is what reading gives: its value with the place where it ends, or that the bytes end before
+abbrev pub AnswersField : {X : Type 0} → Result (X × ℕ) CutOff → Decoded FileFaultKind X → Type 0
+AnswersField (Ok read) answer = answer ≡ got read.0 read.1
+AnswersField (Err cut) answer = answer ≡ bad short cut.offset

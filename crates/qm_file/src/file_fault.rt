@@ -1,6 +1,7 @@
-ghost use Rattle.std.specs.Prelude.{◌≡◌};
-ghost use Rattle.qm_file.specs.declared.file_fault.FileFault.TheVariants.{Memory};
+ghost use Rattle.std.specs.Prelude.{◌≡◌, length};
+ghost use Rattle.qm_file.specs.declared.file_fault.FileFault.TheVariants.{Short, Memory};
 
+use crate::field_reading::CutOff;
 use std::alloc::{AllocError, AllocFailed};
 use thiserror::Error;
 
@@ -57,5 +58,22 @@ impl<T: Drop> From<AllocFailed<T>> for FileFault {
 
     fn from(_fault: AllocFailed<T>) -> FileFault {
         FileFault::Memory
+    }
+}
+
+impl From<CutOff> for FileFault {
+    ghost from_gives = { λ cut fault. fault ≡ Short cut.offset };
+
+    fn from(cut: CutOff) -> FileFault {
+        FileFault::Short { offset: cut.offset }
+    }
+}
+
+/// The fault of bytes that end too early.
+pub(crate) fn short(bytes: &[u8]) -> FileFault
+    ensures { result ≡ FileFault.Short (length bytes.now) }
+{
+    FileFault::Short {
+        offset: bytes.len() as u64,
     }
 }

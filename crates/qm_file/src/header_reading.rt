@@ -6,8 +6,8 @@ ghost use Rattle.qm_formats.specs.FileLayout.{magic_layout, count_layout, flag_l
 ghost use Rattle.qm_file.specs.Answers.{IsFaultOfFile, AnswersTreeFile};
 ghost use Rattle.qm_file.specs.inner.SeenHeader.{seen_header};
 
-use crate::field_reading::{short, u8_at, u32_at, u64_at};
-use crate::file_fault::FileFault;
+use crate::field_reading::{u8_at, u32_at, u64_at};
+use crate::file_fault::{FileFault, short};
 
 /// What stands before the planes: the version, how many planes, nodes, leaves and numbered leaves there are, whether rows
 /// are there, half the size of the world's cube, and how many sections there are.
@@ -159,5 +159,5 @@ fn section_count_at(bytes: &[u8], at: usize, version: u8) -> Result<(u32, usize)
     if version == 1 {
         return Ok((0, at));
     }
-    u32_at(bytes, at)
+    Ok(u32_at(bytes, at)?)
 }

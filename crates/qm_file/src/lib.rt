@@ -20,6 +20,7 @@ mod tree_reading;
 mod upgrading;
 mod writing;
 
+pub use field_reading::{CutOff, i32_at, i64_at, u32_at, u64_at};
 pub use file_fault::FileFault;
 pub use laws::{
     cut_file, exact_layout, first_tree_fault, first_version_file, numbered_nodes, one_tree_file,

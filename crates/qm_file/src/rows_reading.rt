@@ -12,8 +12,8 @@ ghost use Rattle.qm_runs.specs.Answers.{IsRunFault};
 ghost use Rattle.qm_file.specs.Answers.{IsFaultOfFile, AnswersTreeFile};
 ghost use Rattle.qm_file.specs.inner.SeenHeader.{seen_header};
 
-use crate::field_reading::{short, word_from};
-use crate::file_fault::FileFault;
+use crate::field_reading::word_from;
+use crate::file_fault::{FileFault, short};
 use crate::header_reading::Header;
 use crate::record_reading::room_for;
 use qm_bits::BitRow;

@@ -8,8 +8,8 @@ ghost use Rattle.qm_formats.specs.FileLayout.{section_head_layout, section_layou
 ghost use Rattle.qm_file.specs.Answers.{IsFaultOfFile, AnswersTreeFile};
 ghost use Rattle.qm_file.specs.inner.SeenHeader.{seen_header};
 
-use crate::field_reading::{short, u32_at, u64_at};
-use crate::file_fault::FileFault;
+use crate::field_reading::{u32_at, u64_at};
+use crate::file_fault::{FileFault, short};
 use crate::header_reading::Header;
 use crate::tree_file::Section;
 use qm_lists::Items;

@@ -6,8 +6,8 @@ ghost use Rattle.qm_model_file.specs.Answers.{IsFaultOfModels, AnswersModels};
 
 use crate::brush_model::BoundingBox;
 use crate::field_bytes::put_i32;
-use crate::field_reading::i32_at;
 use crate::models_fault::ModelsFault;
+use qm_file::i32_at;
 use std::alloc::AllocError;
 
 /// The three low ends and the three high ends of a box, and where they end.

@@ -11,8 +11,8 @@ ghost use Rattle.qm_model_file.specs.inner.SeenKept.{seen_kept};
 
 use crate::box_fields::box_at;
 use crate::brush_model::BoundingBox;
-use crate::field_reading::{short, u64_at};
-use crate::models_fault::ModelsFault;
+use crate::models_fault::{ModelsFault, short};
+use qm_file::u64_at;
 use std::alloc::Global;
 
 /// What stands before the tree of a model: its entity, its box and its leaves.

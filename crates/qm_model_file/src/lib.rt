@@ -5,7 +5,6 @@
 mod box_fields;
 mod brush_model;
 mod field_bytes;
-mod field_reading;
 mod kept_reading;
 mod laws;
 mod model_reading;

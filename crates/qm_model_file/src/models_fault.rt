@@ -1,6 +1,7 @@
-ghost use Rattle.std.specs.Prelude.{◌≡◌};
-ghost use Rattle.qm_model_file.specs.declared.models_fault.ModelsFault.TheVariants.{Memory};
+ghost use Rattle.std.specs.Prelude.{◌≡◌, length};
+ghost use Rattle.qm_model_file.specs.declared.models_fault.ModelsFault.TheVariants.{Short, Memory};
 
+use qm_file::CutOff;
 use std::alloc::{AllocError, AllocFailed};
 use thiserror::Error;
 
@@ -33,5 +34,22 @@ impl<T: Drop> From<AllocFailed<T>> for ModelsFault {
 
     fn from(_fault: AllocFailed<T>) -> ModelsFault {
         ModelsFault::Memory
+    }
+}
+
+impl From<CutOff> for ModelsFault {
+    ghost from_gives = { λ cut fault. fault ≡ Short cut.offset };
+
+    fn from(cut: CutOff) -> ModelsFault {
+        ModelsFault::Short { offset: cut.offset }
+    }
+}
+
+/// The fault of bytes that end too early.
+pub(crate) fn short(bytes: &[u8]) -> ModelsFault
+    ensures { result ≡ ModelsFault.Short (length bytes.now) }
+{
+    ModelsFault::Short {
+        offset: bytes.len() as u64,
     }
 }

@@ -4,9 +4,9 @@ ghost use Rattle.qm_model_layout.specs.ModelLayout.{AreModelsBytes, models_layou
 ghost use Rattle.qm_model_file.specs.Answers.{IsFaultOfModels, AnswersModels};
 
 use crate::brush_model::BrushModel;
-use crate::field_reading::u32_at;
 use crate::model_reading::all_models_at;
 use crate::models_fault::ModelsFault;
+use qm_file::u32_at;
 use qm_lists::Items;
 use std::alloc::Global;
 

@@ -3,10 +3,12 @@
 ghost use Rattle.std.specs.Prelude.{◌≡◌, IfOk};
 ghost use Rattle.qm_contacts.specs.Contacts.{AreContacts};
 ghost use Rattle.qm_contacts.specs.Portals.{portals_of};
+ghost use Rattle.qm_contacts.specs.inner.WorldParts.{leaves_to};
 
 use crate::leaving::Leaving;
 use crate::numbers::Numbers;
 use crate::passages::portals;
+use crate::portal::Portal;
 use crate::touch_list::TouchList;
 use crate::worlds::World;
 use qm_tree::Tree;
@@ -21,5 +23,17 @@ pub fn world(alloc: Global, tree: &Tree, touches: &TouchList) -> Result<World, A
     let numbers = Numbers::of(alloc, tree.all_leaves())?;
     let portals = portals(alloc, tree, &numbers.before, touches.touchings())?;
     let leaving = Leaving::of(alloc, &portals, numbers.numbered.len())?;
-    Ok(World::of(tree.copy(alloc)?, numbers, portals, leaving))
+    let entered = entered_leaves(alloc, &portals)?;
+    Ok(World::of(tree.copy(alloc)?, numbers, portals, entered, leaving))
+}
+
+/// The leaf that each portal enters.
+fn entered_leaves(alloc: Global, portals: &[Portal]) -> Result<Vec<u64>, AllocError>
+    ensures { IfOk result (λ entered. entered.items ≡ leaves_to portals.now) }
+{
+    let mut entered = Vec::with_capacity(alloc, portals.len())?;
+    for portal in portals {
+        entered.push(portal.to)?;
+    }
+    Ok(entered)
 }

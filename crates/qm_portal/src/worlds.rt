@@ -19,6 +19,8 @@ pub struct World {
     tree: Tree,
     numbers: Numbers,
     portals: Vec<Portal>,
+    /// The leaf that each portal enters, in a list of its own: a portal is large, and flows ask for this leaf most.
+    entered: Vec<u64>,
     leaving: Leaving,
 }
 
@@ -34,19 +36,26 @@ impl Model for World {
 
     ghost view = { λ world. record { tree = world.tree; portals = world.portals.items } };
 
-    ghost invariant = { λ world. AreWorldParts world.tree world.portals.items world.numbers.numbered.items world.numbers.before.items world.leaving.begins.items world.leaving.places.items };
+    ghost invariant = { λ world. AreWorldParts world.tree world.portals.items world.entered.items world.numbers.numbered.items world.numbers.before.items world.leaving.begins.items world.leaving.places.items };
 }
 
 impl World {
     /// The world of its parts.
-    pub(crate) fn of(tree: Tree, numbers: Numbers, portals: Vec<Portal>, leaving: Leaving) -> World
-        requires { AreWorldParts tree portals.items numbers.numbered.items numbers.before.items leaving.begins.items leaving.places.items }
+    pub(crate) fn of(
+        tree: Tree,
+        numbers: Numbers,
+        portals: Vec<Portal>,
+        entered: Vec<u64>,
+        leaving: Leaving,
+    ) -> World
+        requires { AreWorldParts tree portals.items entered.items numbers.numbered.items numbers.before.items leaving.begins.items leaving.places.items }
         ensures { result ≡ record { tree = tree; portals = portals.items } }
     {
         World {
             tree,
             numbers,
             portals,
+            entered,
             leaving,
         }
     }
@@ -126,8 +135,7 @@ impl World {
         ensures value { (portal : PortalRecord) × (slice_get self.now.portals p ≡ Some portal) × (result ≡ portal.to) }
         ensures within { result < length (numbered_leaves self.now.tree) }
     {
-        let portal = &self.portals[p as usize];
-        portal.to
+        self.entered[p as usize]
     }
 
     /// The portal that leads back through a portal.

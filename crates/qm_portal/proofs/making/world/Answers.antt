@@ -10,7 +10,7 @@ use Rattle.qm_contacts.specs.NumberedLeaves.{numbered_from, numbered_leaves}
 use Rattle.qm_contacts.specs.Portals.{Portal, portals_of}
 use Rattle.qm_contacts.specs.inner.LeafNumbers.{AreNumbersOf}
 use Rattle.qm_contacts.specs.inner.Leaving.{AreLeavingInRows}
-use Rattle.qm_contacts.specs.inner.WorldParts.{IsAmong}
+use Rattle.qm_contacts.specs.inner.WorldParts.{IsAmong, leaves_to}
 use Rattle.qm_contacts.proofs.PortalLists.{pairs_have_leaves, portals_among}
 use Rattle.qm_portal.proofs.making.world.Goals as goal
 
@@ -46,6 +46,7 @@ of-requires-3 c =
         portals_are = sym portals_are ∙ ap (λ (t : Tree). portals_of t touchings) (sym c.in_ok-copy.ensures);
       };
       numbers = subst (λ (found : List Leaf). AreNumbersOf found numbered.items c.in_ok-numbers.numbers.before.items) leaves c.in_ok-numbers.ensures;
+      entered_are = c.in_ok-entered.ensures ∙ ap leaves_to c.deref-3.ensures.value;
       among = subst (λ (all : List Portal). All (IsAmong (length numbered.items)) all) portals_are (subst (λ (n : ℕ). All (IsAmong n) (portals_of tree touchings)) count (portals_among tree touchings c.requires.touching));
       leaving = subst (λ (n : ℕ). AreLeavingInRows portals n c.in_ok-leaving.leaving.begins.items c.in_ok-leaving.leaving.places.items) all leaving;
     }
