@@ -54,9 +54,9 @@ refuses_maps_without_faces() {
     done <<'END'
 |it has no entity
 { {\n} }|line 2: no faces
-{ {\n( 0 0 0 ) ( 0 0 1 ) ( 1 0 0 ) } }|line 2: behind the points of a face stand no texture and mapping
-{ {\n( 0 0 0 ) ( 0 0 1 ) ( 1 0 0 ) x 0 0 0 1 } }|line 2: behind the points of a face stand no texture and mapping
-{ {\n( 0 0 0 ) ( 0 0 1 ) ( 1 0 0 ) x [ 0 0 0 1 ] 0 0 0 0 0 0 0 0 0 } }|line 2: behind the points of a face stand no texture and mapping
+{ {\n( 0 0 0 ) ( 0 0 1 ) ( 1 0 0 ) } }|line 2: no texture and mapping after the points of a face
+{ {\n( 0 0 0 ) ( 0 0 1 ) ( 1 0 0 ) x 0 0 0 1 } }|line 2: no texture and mapping after the points of a face
+{ {\n( 0 0 0 ) ( 0 0 1 ) ( 1 0 0 ) x [ 0 0 0 1 ] 0 0 0 0 0 0 0 0 0 } }|line 2: no texture and mapping after the points of a face
 { { ( 0 0 0 ) ( 0 0 1 ) ( 1 0 0 ) x 0 0 0 1 1\n( 0 0 0 ) ( 0 0 1.0001 ) ( 1 0 0 ) x 0 0 0 1 1 } }|line 2: fraction
 { { ( 0 0 0 ) ( 0 0 1 ) ( 1 0 0 ) x 0 0 0 1 1 5 5 } }|line 1: no three points of a face stand there
 END

@@ -142,7 +142,7 @@ static inline int qm_contents(const qm_tree *tree, int64_t leaf);
 static inline int qm_is_filled(const qm_tree *tree, int64_t leaf);
 static inline int64_t qm_number_of(const qm_tree *tree, int64_t leaf);
 
-/* what a point is in: of the level, of a clip hull, or, by &model->tree, of a model, at its place in the map */
+/* what a point is in: in the level, in a clip hull, or, with &model->tree, in a model at its place in the map */
 static inline int qm_contents_at(const qm_tree *tree, const double point[3]);
 
 /* how many bytes a row has when it is decoded */
@@ -164,7 +164,7 @@ static inline void qm_add_touching(const qm_tree *tree, const qm_contacts *conta
 /* the same, and all that the rows of these leaves hold: what may be seen through that surface */
 static inline void qm_add_through(const qm_tree *tree, const qm_contacts *contacts, const unsigned char *row, unsigned char *all);
 
-/* the span of a segment that begins at `at`, a fraction of the segment: start with 0, and pass its `to` on until that is 1 */
+/* the span of a segment that begins at `at`, a fraction of the segment: start with 0, then pass the `to` of the last span, until it is 1 */
 static inline qm_span qm_span_at(const qm_tree *tree, const double from[3], const double to[3], double at);
 
 /* the part of a segment at which it comes into something solid, or 1 if it does not */
@@ -173,19 +173,20 @@ static inline double qm_struck(const qm_tree *tree, const double from[3], const 
 /* the model of an entity, or NULL */
 static inline const qm_model *qm_model_of(const qm_models *models, uint64_t entity);
 
-/* the numbers of the leaves that a model touches, by their places from 0 on: they ascend */
+/* the number of the leaf at a place, from 0 on, in the list of those that a model touches: these numbers ascend */
 static inline int64_t qm_touched(const qm_model *model, int64_t at);
 
 /* whether a decoded row holds a leaf that a model touches: if not, the model need not be drawn, at its place in the map. 0
    for a model inside walls, which touches none */
 static inline int qm_is_drawn(const qm_model *model, const unsigned char *row);
 
-/* whether a decoded row holds a leaf that a box touches, such as that of a model that has moved. Also 1 in a tree so deep, more than
-   1,024 nodes one below another, that this is not found out */
+/* whether a decoded row holds a leaf that a box touches, such as that of a model that has moved. 1 too if the tree is too deep to tell,
+   with more than 1,024 nodes one below another */
 static inline int qm_box_is_drawn(const qm_tree *tree, const unsigned char *row, const double low[3], const double high[3]);
 
-/* the numbers of the three planes that meet in a corner of a face, from 0 on: that of the face, of the edge to the corner before, and
-   of the edge to the next one. From 0 on a number is that of a plane of the file; -1 to -6 are the walls of the cube */
+/* the number of one of the three planes that meet in a corner of a face: `which` is 0 for that of the face, 1 for that of the edge to
+   the corner before, 2 for that of the edge to the next one. A number of 0 or more is a plane of the file; -1 to -6 are the walls of
+   the cube */
 static inline int64_t qm_corner_plane(const qm_face *face, uint32_t corner, int which);
 
 /* the corner as a point: each coordinate is the nearest double, or the one next to it */
@@ -609,7 +610,7 @@ static inline int qm_corner_planes(const qm_tree *tree, const qm_face *face, uin
     return 1;
 }
 
-/* the next face; once all its bytes are there its form is looked at */
+/* the next face; its form is checked once all its bytes are there */
 static inline int qm_read_face(qm_reader *in, const qm_tree *tree, qm_face *face) {
     uint64_t begin = in->at;
     int64_t planes[3][4];

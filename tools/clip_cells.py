@@ -1,4 +1,4 @@
-"""Makes a clip hull from brushes: cells with sides along the axes, and in each the brushes that reach into it, one behind another."""
+"""Makes a clip hull from brushes: cells with sides along the axes, and in each the brushes that reach into it, one after another."""
 
 from bisect import bisect_left, bisect_right
 from typing import NamedTuple, Optional
@@ -96,7 +96,7 @@ def crossing(planes, low, high, axis):
 
 
 def chain(brushes, first):
-    """Nodes for brushes, each by its planes, one behind another, numbered from `first` on: what is in front of a plane comes to the
+    """Nodes for brushes, each by its planes, one after another, numbered from `first` on: what is in front of a plane comes to the
     next brush."""
     nodes, number = [], first
     for at, planes in enumerate(brushes):

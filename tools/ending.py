@@ -24,7 +24,7 @@ class Ended(BaseException):
 
 
 class Signals:
-    """Raises `Ended` at the first signal, at once or behind what is to be done as a whole. Later signals are passed over."""
+    """Raises `Ended` at the first signal, at once or after what is to be done as a whole. Later signals are passed over."""
 
     def __init__(self):
         self.holding, self.waiting, self.raised = 0, None, False

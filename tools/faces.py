@@ -1,5 +1,5 @@
 """Reads the faces of a map from its text, and finds those whose points the compiler refuses, each with points near by that it
-takes. What stands behind the points of a face is not looked at.
+takes. What comes after the points of a face is not looked at.
 
 A coordinate is counted in thousandths: a whole number where it has three decimals at most, else a fraction. Nothing is rounded
 but to points of a grid."""

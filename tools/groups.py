@@ -17,7 +17,7 @@ class Moved(NamedTuple):
 
 
 def moved(text):
-    """The text in which the brushes of groups stand in the world, behind its own. Each goes with the blanks and comments
+    """The text in which the brushes of groups stand in the world, after its own. Each goes with the blanks and comments
     before it, and the entity stays, with its pairs; all else is as it was. Raises `maptext.NoMap`."""
     world, *others = maptext.entities(text)
     groups = [entity for entity in others if entity.value(b"classname") in CLASSES and entity.brushes]
@@ -35,5 +35,5 @@ def moved(text):
 
 
 def apart(part):
-    """A part that goes on behind a bracket, parted from it where no blank does that."""
+    """A part that goes on after a bracket, parted from it where no blank does that."""
     return part if part[0] <= 32 else b"\n" + part

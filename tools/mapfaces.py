@@ -85,7 +85,7 @@ def face_at(words, at, text, begin):
     if is_valve and end < len(words) and mapping[0] == mapping[6] == b"[" and mapping[5] == mapping[11] == b"]":
         mapping = [mapping[number] for number in AXES]
     if end >= len(words) or not MARKS.isdisjoint(mapping) or words[name] in MARKS:
-        raise wrong(text, begin, at, "behind the points of a face stand no texture and mapping")
+        raise wrong(text, begin, at, "no texture and mapping after the points of a face")
     return Face(plane, unquoted(words[name]), tuple(mapping)), end
 
 

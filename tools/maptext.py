@@ -3,7 +3,7 @@
 import re
 from typing import NamedTuple
 
-# of the words of a face many are taken at once: behind the first one those that begin as no bracket, quote or comment does
+# of the words of a face many are taken at once: after the first one those that begin as no bracket, quote or comment does
 TOKEN = re.compile(rb'(?P<comment>//[^\n]*)|"(?P<quoted>[^"]*)"|(?P<unclosed>")|(?P<bracket>[{}])(?![^\x00-\x20])'
                    rb'|(?P<words>[^\x00-\x20]+(?:[\x00-\x20]+[^\x00-\x20"{}/][^\x00-\x20]*)*)')
 # how far from 0 a coordinate of a map can be

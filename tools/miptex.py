@@ -9,7 +9,7 @@ HEADER, NAME, MOST_LETTERS, MIPTEX = 40, 16, 15, 0x44
 ROWS = (1, 2, 3, 4, 5, 6, 7, 8, 9, 10, 11, 12)
 LIQUIDS = ((b"*lava", 14), (b"*slime", 3), (b"*", 13))
 SKY_ROW, TRANSPARENT = 13, 0
-# the letters behind `+` that name the frames of a texture that moves
+# the letters after `+` that name the frames of a texture that moves
 FRAMES = b"0123456789"
 ALTERNATES = b"abcdefghij"
 

@@ -9,7 +9,7 @@ it has, how many leaves it touches that hold other contents, and these (4 bytes 
 stand the bound of the world; the brush models, each with what is said of it, its box, the numbers of the leaves that it touches, and
 how many surfaces it has, which follow those of the leaves; the entities of a map that stand at a place, each with its kind, what is said of it, its class and its
 place; and, each null where it is not there or not said, the planes, nodes and leaves of clip hull 1 (a byte that is 1 where a leaf is
-solid), the portals of a listing, the points of a leak line, where one begins, and where one looks."""
+solid), the portals of a listing, the points of a leak line, where you begin, and where you look."""
 
 from base64 import b64encode
 from html import escape

@@ -369,7 +369,7 @@ def read_counts(data):
 
 
 def read_size(data):
-    """What version 2 has before the planes: how far the world reaches, and how many sections there are. Then the place behind."""
+    """What version 2 has before the planes: how far the world reaches, and how many sections there are. Then the place after these."""
     bound, = unpack("<I", take(data, 41, 4))
     if bound not in BOUNDS:
         raise Fault("header form", 41)
@@ -377,7 +377,7 @@ def read_size(data):
 
 
 def read_planes(data, first, count):
-    """The planes, and the place behind them."""
+    """The planes, and the place after them."""
     planes = []
     found, end = records(data, first, count, "<3iq")
     for plane in found:
@@ -391,7 +391,7 @@ def read_planes(data, first, count):
 
 
 def read_nodes(data, first, counts):
-    """The nodes, and the place behind them."""
+    """The nodes, and the place after them."""
     found, end = records(data, first, counts[1], "<Iqq")
     nodes = [Node(*node) for node in found]
     due(data, end)
@@ -420,7 +420,7 @@ def in_order(nodes, planes, leaves):
 
 
 def read_leaves(data, first, counts):
-    """The leaves, and the place behind them."""
+    """The leaves, and the place after them."""
     leaves, numbered = [], 0
     found, end = records(data, first, counts[2], "<iB")
     for code, filled in found:
@@ -435,7 +435,7 @@ def read_leaves(data, first, counts):
 
 
 def read_rows(data, at, count):
-    """The rows, one for each numbered leaf, and the place behind them."""
+    """The rows, one for each numbered leaf, and the place after them."""
     rows = []
     for own in range(count):
         row, end = read_row(data, at, (count + 7) // 8)
@@ -448,7 +448,7 @@ def read_rows(data, at, count):
 
 
 def read_row(data, at, width):
-    """The bytes of the row that begins at a place, and the place behind it. A byte that is not 0 stands for itself, and a 0
+    """The bytes of the row that begins at a place, and the place after it. A byte that is not 0 stands for itself, and a 0
     is followed by how many zeros there are, as many as there can be."""
     parts, place, left, could_be_longer, end = [], at, width, False, len(data)
     while left:
@@ -473,7 +473,7 @@ def read_row(data, at, width):
 
 
 def read_sections(data, at, count):
-    """The sections, and the place behind them. Their kinds ascend from 1 on."""
+    """The sections, and the place after them. Their kinds ascend from 1 on."""
     sections = []
     while len(sections) < count:
         kind, length = unpack("<IQ", take(data, at, 12))
@@ -503,7 +503,7 @@ def read_models(data, bound, numbered):
 
 
 def read_model(data, at, bound):
-    """The brush model whose bytes begin at a place, whose tree is None where its bytes are none, and the place behind it."""
+    """The brush model whose bytes begin at a place, whose tree is None if its bytes are no tree file, and the place after it."""
     entity, *ends, count = unpack("<Q6iQ", take(data, at, 40))
     leaves = unpack(f"<{count}Q", take(data, at + 40, 8 * count))
     at += 40 + 8 * count
@@ -536,7 +536,7 @@ def read_faces(data, tree):
 
 
 def read_piece(data, at):
-    """The piece whose bytes begin at a place, and the place behind it."""
+    """The piece whose bytes begin at a place, and the place after it."""
     leaf, brush, face, count = unpack("<QQII", take(data, at, 24))
     corners = iter_unpack("<3q", take(data, at + 24, 24 * count))
     return Piece(leaf, brush, face, list(corners)), at + 24 + 24 * count
