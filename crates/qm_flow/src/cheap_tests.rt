@@ -17,8 +17,7 @@ use qm_narrow::may_pass;
 use qm_sight::RowSource;
 use std::alloc::AllocError;
 
-/// Whether a portal passes the cheap tests of a try at a frame: it may lead on. The words are listed in which the mask has a leaf
-/// that was not found.
+/// Whether a portal passes the cheap tests of a try at a frame: the chain may enter its leaf, and it may lead on.
 pub(crate) fn passes_cheap_tests<'a, S: RowSource>(
     flow: &Flow<'a>,
     source: &mut S,
@@ -33,13 +32,16 @@ pub(crate) fn passes_cheap_tests<'a, S: RowSource>(
     ensures none { IfOk result (λ may. may ≡ false → (q : Portal) → IsAt flow.now.world.now.portals portal q → LeadsOn flow.now.world.now flow.now.first frame.now found.now q → ⊥) }
     ensures on { S.goes_on source.old source.new }
 {
+    if !frame.may_enter(flow.world.to(portal)) {
+        return Ok(false);
+    }
     list_new(&frame.mask, found, words)?;
     let may = may_lead_on(flow, source, frame, portal, found, words);
     Ok(may)
 }
 
-/// Whether a portal may lead on: it enters a leaf of the mask in which the chain was not, it may show a leaf of the mask that was
-/// not found, and the state lets it pass.
+/// Whether a portal into a leaf that the chain may enter may lead on: it may show a leaf of the mask that was not found, and the
+/// state lets it pass.
 pub(crate) fn may_lead_on<'a, S: RowSource>(
     flow: &Flow<'a>,
     source: &mut S,
@@ -51,14 +53,9 @@ pub(crate) fn may_lead_on<'a, S: RowSource>(
     requires portal { portal < length flow.now.world.now.portals }
     requires of_world { AreOfWorld flow.now.world.now (S.world source.old) (pairs_of flow.now) frame.now found.now }
     requires words { HaveAllNew frame.now.mask found.now words.now }
-    ensures new { result ≡ true → (q : Portal) → IsAt flow.now.world.now.portals portal q → IsIn frame.now.met q.to → ⊥ }
     ensures none { result ≡ false → (q : Portal) → IsAt flow.now.world.now.portals portal q → LeadsOn flow.now.world.now flow.now.first frame.now found.now q → ⊥ }
     ensures on { S.goes_on source.old source.new }
 {
-    let to = flow.world.to(portal);
-    if frame.met.get(to) || !frame.mask.get(to) {
-        return false;
-    }
     if !may_show(&flow.own, source, portal, &frame.mask, found, words) {
         return false;
     }

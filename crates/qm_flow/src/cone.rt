@@ -124,6 +124,9 @@ fn enter<'a, S: RowSource>(
     if scratch.cone.get(to) {
         return Ok(());
     }
+    if !frame.may_enter(to) {
+        return Ok(());
+    }
     let words = &scratch.words;
     if !may_lead_on(flow, source, frame, portal, found, words) {
         return Ok(());

@@ -1,8 +1,8 @@
 //! Where a walk of chains stands.
 
-ghost use Rattle.std.specs.Prelude.{◌≡◌, ◌<◌, [], length, MatchOption, IfOk};
+ghost use Rattle.std.specs.Prelude.{◌≡◌, ◌↔◌, ◌<◌, [], true, length, MatchOption, IfOk};
 ghost use Rattle.qm_contacts.specs.OwnPortals.{HasOwnPortals};
-ghost use Rattle.qm_chains.specs.inner.Frame.{put_back};
+ghost use Rattle.qm_chains.specs.inner.Frame.{put_back, MayEnter};
 ghost use Rattle.qm_flow.specs.inner.FirstFrame.{IsFirstFrame};
 
 use qm_bits::BitRow;
@@ -70,6 +70,15 @@ impl<'a> Frame<'a> {
         ensures { result.now ≡ self.now.state }
     {
         &self.state
+    }
+
+    /// Whether the chain may enter a leaf: it was not in it before, and may still show it.
+    pub(crate) fn may_enter(&self, leaf: u64) -> bool
+        requires met { leaf < length self.now.met }
+        requires mask { leaf < length self.now.mask }
+        ensures { (result ≡ true) ↔ MayEnter self.now leaf }
+    {
+        !self.met.get(leaf) && self.mask.get(leaf)
     }
 
     /// Takes off the portal that is to be tried next.

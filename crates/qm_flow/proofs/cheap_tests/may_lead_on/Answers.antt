@@ -12,23 +12,6 @@ use Rattle.qm_flow.specs.inner.NewWords.{HaveAllNew}
 use Rattle.qm_flow.proofs.Panes.{passes_there}
 use Rattle.qm_flow.proofs.cheap_tests.may_lead_on.Goals as goal
 
-pub get-requires : goal.get-requires
-get-requires g c =
-    let within = c.to.ensures.within in
-    let wide = ap (λ (f : Frame). length f.met) c.frame.view_is ∙ c.requires.of_world.wide.met in
-    omega (arith, within, wide)
-
--- its leaf was met
-
-pub returns-then-get-clause-none : goal.returns-then-get-clause-none
-returns-then-get-clause-none g c is q at leads =
-    let p = c.to.ensures.value in
-    let same = ap (λ (r : Portal). r.to) (same_portal c.args.flow.now.world.now.portals c.args.portal p.0 q p.1 at) in
-    leads.new (sym (c.get.ensures ∙ ap (λ (f : Frame). get_or f.met c.to.result false) c.frame.view_is ∙ ap (λ (n : ℕ). get_or c.args.frame.now.met n false) (p.2 ∙ same)) ∙ c.if-get.true)
-
-pub returns-then-get-clause-on : goal.returns-then-get-clause-on
-returns-then-get-clause-on g c = g.met.S.RowSource.goes_on_itself c.args.source.now
-
 -- it shows nothing new
 
 pub may_show-requires-clause-portal : goal.may_show-requires-clause-portal
@@ -69,10 +52,3 @@ returns-clause-none g c is q at leads =
     let here = passes_there world.portals c.args.portal c.pane.result.now.winding c.pane.result.now.into c.pane.ensures c.frame.inside.state c.args.frame.now.state (ap (λ (f : Frame). f.state) c.frame.view_is) q at leads.passed in
     let never : false ≡ true = sym is ∙ c.may_pass.ensures.1 here in
     absurd (let e : false ≡ true = never in cc)
-
-pub returns-clause-new : goal.returns-clause-new
-returns-clause-new g c is q at met =
-    let p = c.to.ensures.value in
-    let same = ap (λ (r : Portal). r.to) (same_portal c.args.flow.now.world.now.portals c.args.portal p.0 q p.1 at) in
-    not_in_if_clear c.args.frame.now.met q.to
-    (sym (c.get.ensures ∙ ap (λ (f : Frame). get_or f.met c.to.result false) c.frame.view_is ∙ ap (λ (n : ℕ). get_or c.args.frame.now.met n false) (p.2 ∙ same)) ∙ c.if-get.false) met
