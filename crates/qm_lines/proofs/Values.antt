@@ -8,7 +8,7 @@ use Rattle.qm_numbers.proofs.IntegerProducts.{linear, *ℤ_one, neg-*ℤ}
 use Rattle.qm_numbers.proofs.Bits.{kept_32}
 use Rattle.qm_numbers.proofs.Kept.{kept, fits_64, fits_128, sum_fits, sum_kept, difference_fits, difference_kept, product_fits, product_kept, three_size, three_is}
 use Rattle.qm_numbers.proofs.Signs.{abs_sum, abs_difference, abs_product_bound}
-use Rattle.qm_space.specs.Bounds.{world_extent, normal_bound, product_bound, cube_distance_bound, distance_bound}
+use Rattle.qm_space.specs.Bounds.{world_extent, normal_bound, product_bound, distance_bound}
 use Rattle.qm_space.specs.Point.{Point, whole_point, IsCoordinate, AreCoordinates}
 use Rattle.qm_space.specs.Plane.{Plane, value}
 use Rattle.qm_space.proofs.CoordinateSizes.{coordinate_small, coordinate_kept}

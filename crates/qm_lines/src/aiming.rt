@@ -11,6 +11,9 @@ use std::alloc::{AllocError, Global};
 /// The greatest coordinate of the closed cube, and the opposite of the least.
 const EXTENT: i64 = WORLD_EXTENT as i64;
 
+/// How many lines are aimed through a portal at most.
+const MOST_AIMS: usize = 14;
+
 /// The anchors of a winding, through which lines are drawn: its middle, and one near each corner.
 pub(crate) fn anchors_of(alloc: Global, winding: &Winding) -> Result<Vec<[i32; 3]>, AllocError> {
     let mut anchors = Vec::new(alloc);
@@ -178,17 +181,28 @@ fn list_others(
 ) -> Result<(), AllocError> {
     for one in ranked {
         if let Some(second) = seconds.get(one.place) {
-            for other in firsts {
-                if aims.len() >= 14 {
-                    return Ok(());
-                }
-                if *other != *first {
-                    aims.push(Aim {
-                        first: *other,
-                        second: *second,
-                    })?;
-                }
-            }
+            list_to(second, first, firsts, aims)?;
+        }
+    }
+    Ok(())
+}
+
+/// Lists lines to one point from all first anchors but one, as far as there is room in the list.
+fn list_to(
+    second: &[i32; 3],
+    first: &[i32; 3],
+    firsts: &[[i32; 3]],
+    aims: &mut Vec<Aim>,
+) -> Result<(), AllocError> {
+    for other in firsts {
+        if aims.len() >= MOST_AIMS {
+            return Ok(());
+        }
+        if *other != *first {
+            aims.push(Aim {
+                first: *other,
+                second: *second,
+            })?;
         }
     }
     Ok(())

@@ -3,6 +3,7 @@
 #![tactic(auto)]
 
 mod aiming;
+mod anchors;
 mod crossing;
 mod exits;
 mod first_portal;
@@ -10,6 +11,7 @@ mod following;
 mod kept_lines;
 mod line;
 mod line_store;
+mod packing;
 mod reading;
 mod short_spot;
 mod showing;

@@ -2,7 +2,8 @@
 
 ghost use Rattle.std.specs.Prelude.{◌<◌, length};
 
-use crate::aiming::{Aim, Ranked, anchors_into, list_aims};
+use crate::aiming::{Aim, Ranked, list_aims};
+use crate::anchors::Anchors;
 use crate::exits::Exits;
 use crate::first_portal::FirstPortal;
 use crate::kept_lines::{KeptLine, KeptLines};
@@ -19,8 +20,9 @@ pub struct LineStore {
     pub(crate) exits: Exits,
     pub(crate) aims: Vec<Aim>,
     ranked: Vec<Ranked>,
-    // by the numbers of passages, where they are known
-    anchors: Vec<Vec<[i32; 3]>>,
+    anchors: Anchors,
+    // the anchors of the passage at which lines are aimed
+    seconds: Vec<[i32; 3]>,
     shown: Vec<Option<Aim>>,
     kept: KeptLines,
     back: Vec<u64>,
@@ -34,7 +36,8 @@ impl LineStore {
             exits: Exits::new(alloc),
             aims: Vec::new(alloc),
             ranked: Vec::new(alloc),
-            anchors: Vec::new(alloc),
+            anchors: Anchors::new(alloc),
+            seconds: Vec::new(alloc),
             shown: Vec::new(alloc),
             kept: KeptLines::new(alloc),
             back: Vec::new(alloc),
@@ -49,41 +52,29 @@ impl LineStore {
         portal: u64,
     ) -> Result<Vec<KeptLine>, AllocError> {
         self.exits.make_room(world.leaves())?;
-        self.kept.make_room(alloc, world.portals())?;
-        for _ in self.anchors.len() as u64..world.portals() / 2 {
-            self.anchors.push(Vec::new(alloc))?;
-        }
+        self.anchors.make_room(world.portals() / 2)?;
         self.shown.clear();
         self.shown.resize(world.leaves() as usize, None)?;
-        self.kept.take(alloc, portal)
+        self.kept.take(alloc, world.portals(), portal)
     }
 
     /// Lists the lines from a first portal through another one.
     pub(crate) fn list_aims(&mut self, first: &FirstPortal, other: u64) -> Result<(), AllocError>
         requires { other < length first.now.world.now.portals }
     {
-        self.aims.clear();
-        let passage = (other / 2) as usize;
-        let leaf = first.world.from(other);
-        let shown = match self.shown.get(leaf as usize) {
-            Some(shown) => *shown,
+        let winding = &first.world.pane(other).winding;
+        self.anchors.list(other / 2, winding, &mut self.seconds)?;
+        let shown = match self.shown.get(first.world.from(other) as usize) {
             None => None,
+            Some(shown) => *shown,
         };
-        match self.anchors.get_mut(passage) {
-            None => Ok(()),
-            Some(anchors) => {
-                if anchors.is_empty() {
-                    anchors_into(&first.world.pane(other).winding, anchors)?;
-                }
-                list_aims(
-                    first.anchors,
-                    anchors,
-                    shown,
-                    &mut self.ranked,
-                    &mut self.aims,
-                )
-            }
-        }
+        list_aims(
+            first.anchors,
+            &self.seconds,
+            shown,
+            &mut self.ranked,
+            &mut self.aims,
+        )
     }
 
     /// One of the lines that are listed.
@@ -106,26 +97,14 @@ impl LineStore {
     /// for each of the portals back, from where it shows the first.
     pub(crate) fn keep(&mut self, world: &World, line: &Line) -> Result<(), AllocError> {
         let (from, to) = line.ends();
-        self.kept.keep(
-            &self.trace.passed,
-            &KeptLine {
-                from,
-                to,
-                target: self.trace.leaf,
-            },
-        )?;
+        let last = KeptLine::between(&from, &to, self.trace.leaf);
+        self.kept.keep(&self.trace.passed, &last)?;
         match self.trace.met.first() {
             None => Ok(()),
             Some(target) => {
                 list_back(world, &self.trace.passed, &mut self.back)?;
-                self.kept.keep(
-                    &self.back,
-                    &KeptLine {
-                        from: to,
-                        to: from,
-                        target: *target,
-                    },
-                )
+                let back = KeptLine::between(&to, &from, *target);
+                self.kept.keep(&self.back, &back)
             }
         }
     }

@@ -62,10 +62,11 @@ fn show_kept<S: RowSource>(
     ensures { HasDrawn first.now (S.ceilings source.old) (S.goes_on source.old source.new) row.old row.new }
 {
     for one in kept {
-        if !is_wanted(first.world, row, one.target) {
+        let target = one.target();
+        if !is_wanted(first.world, row, target) {
             continue;
         }
-        show_again(first, source, one, store, row)?;
+        show_again(first, source, one, target, store, row)?;
     }
     Ok(())
 }
@@ -78,24 +79,25 @@ fn is_wanted(world: &World, row: &BitRow, leaf: u64) -> bool
     leaf < world.leaves() && !row.get(leaf)
 }
 
-/// Draws a line that was kept.
+/// Draws a line that was kept, towards a target.
 fn show_again<S: RowSource>(
     first: &FirstPortal,
     source: &mut S,
     kept: &KeptLine,
+    target: u64,
     store: &mut LineStore,
     row: &mut BitRow,
 ) -> Result<(), AllocError>
     requires may_draw { MayDraw first.now (S.world source.old) row.old }
-    requires target { kept.now.target < length (numbered_leaves first.now.world.now.tree) }
+    requires target { target < length (numbered_leaves first.now.world.now.tree) }
     ensures { HasDrawn first.now (S.ceilings source.old) (S.goes_on source.old source.new) row.old row.new }
 {
     let line = kept.line();
-    show_along(first, source, &line, kept.target, store, row)?;
+    show_along(first, source, &line, target, store, row)?;
     let first_at = first.point_on(&line);
     store.note_shown(&Aim {
         first: first_at,
-        second: kept.to,
+        second: kept.end(),
     });
     Ok(())
 }
@@ -192,8 +194,7 @@ fn aim_through<S: RowSource>(
     aim_at(first, source, target, store, row)
 }
 
-/// Whether a line may lead through one portal and then another to a leaf: both rows have it, and that of the portal back
-/// through the other one has the leaf that the first portal leaves.
+/// Whether a line may lead through one portal and then another to a leaf: both rows have it, and a line may lead back.
 fn may_lead<S: RowSource>(world: &World, source: &mut S, portal: u64, other: u64, leaf: u64) -> bool
     requires portal { portal < length world.now.portals }
     requires other { other < length world.now.portals }
@@ -207,7 +208,21 @@ fn may_lead<S: RowSource>(world: &World, source: &mut S, portal: u64, other: u64
     if !has_leaf(source, other, leaf) {
         return false;
     }
-    has_leaf(source, world.back(other), world.from(portal))
+    may_lead_back(world, source, portal, world.back(other))
+}
+
+/// Whether a line may lead through a portal back to the one through which lines are drawn: the row of the portal back has both
+/// leaves of that one.
+fn may_lead_back<S: RowSource>(world: &World, source: &mut S, portal: u64, back: u64) -> bool
+    requires portal { portal < length world.now.portals }
+    requires back { back < length world.now.portals }
+    requires same_world { S.world source.old ≡ world.now }
+    ensures { S.goes_on source.old source.new }
+{
+    if !has_leaf(source, back, world.from(portal)) {
+        return false;
+    }
+    has_leaf(source, back, world.to(portal))
 }
 
 /// Draws the lines that are listed, until the row has their target.

@@ -24,21 +24,17 @@ pub returns-then-not-has_leaf-2 : goal.returns-then-not-has_leaf-2
 returns-then-not-has_leaf-2 g c =
     g.met.S.RowSource.goes_on_in_turn c.args.source.now c.has_leaf.new.source c.has_leaf-2.new.source c.has_leaf.ensures.on c.has_leaf-2.ensures.on
 
-pub from-requires : goal.from-requires
-from-requires g c = c.requires.portal
-
-pub has_leaf-requires-3 : goal.has_leaf-requires-3
-has_leaf-requires-3 g c =
-    let answered = g.S.RowSource.world c.has_leaf-2.new.source in
+pub may_lead_back-requires : goal.may_lead_back-requires
+may_lead_back-requires g c =
     let on = g.met.S.RowSource.goes_on_in_turn c.args.source.now c.has_leaf.new.source c.has_leaf-2.new.source c.has_leaf.ensures.on c.has_leaf-2.ensures.on in
-    let same = g.met.S.RowSource.same_world c.args.source.now c.has_leaf-2.new.source on ∙ c.requires.same_world in
     record {
-      portal = asked_portal c.args.world.now answered same c.back.result c.back.ensures.within;
-      leaf = asked_leaf c.args.world.now answered same c.from.result c.from.ensures.within;
+      portal = c.requires.portal;
+      back = c.back.ensures.within;
+      same_world = g.met.S.RowSource.same_world c.args.source.now c.has_leaf-2.new.source on ∙ c.requires.same_world;
     }
 
 pub returns : goal.returns
 returns g c =
     let in_turn = g.met.S.RowSource.goes_on_in_turn in
-    in_turn c.args.source.now c.has_leaf-2.new.source c.has_leaf-3.new.source
-    (in_turn c.args.source.now c.has_leaf.new.source c.has_leaf-2.new.source c.has_leaf.ensures.on c.has_leaf-2.ensures.on) c.has_leaf-3.ensures.on
+    in_turn c.args.source.now c.has_leaf-2.new.source c.may_lead_back.new.source
+    (in_turn c.args.source.now c.has_leaf.new.source c.has_leaf-2.new.source c.has_leaf.ensures.on c.has_leaf-2.ensures.on) c.may_lead_back.ensures
