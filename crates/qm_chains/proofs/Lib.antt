@@ -11,6 +11,7 @@ pub mod Beginnings
 pub mod Cones
 pub mod ConeSamples
 pub mod Entering
+pub mod LeftToEnter
 pub mod Words
 pub mod PairRows
 pub mod PairSamples

@@ -4,7 +4,7 @@ ghost use Rattle.std.specs.Prelude.{ℕ, ◌≡◌, ◌<◌, [], ◌∷◌, leng
 ghost use Rattle.std.specs.Bool.{then_some};
 ghost use Rattle.qm_lists.specs.WorkList.{IsIn};
 ghost use Rattle.qm_contacts.specs.NumberedLeaves.{numbered_leaves};
-ghost use Rattle.qm_chains.specs.inner.Cone.{LeadsInto, IsInCone, IsLeftOf, AreEntered};
+ghost use Rattle.qm_chains.specs.inner.Cone.{LeadsInto, IsInCone, IsLeftOf, AreEntered, AreLeft};
 ghost use Rattle.qm_chains.specs.inner.Walk.{AreWide};
 ghost use Rattle.qm_flow.specs.inner.FlowPairs.{pairs_of};
 ghost use Rattle.qm_flow.specs.inner.CutFrame.{IsCutFrame};
@@ -14,7 +14,7 @@ ghost use Rattle.qm_flow.specs.inner.OfWorld.{AreOfWorld};
 use crate::cheap_tests::may_lead_on;
 use crate::flow_state::Flow;
 use crate::frame::Frame;
-use crate::masks::list_new;
+use crate::masks::{copy_row, list_new, take_one, take_out};
 use crate::room::Scratch;
 use qm_bits::BitRow;
 use qm_sight::RowSource;
@@ -70,6 +70,9 @@ pub(crate) fn cone_of<'a, S: RowSource>(
 {
     scratch.cone.clear();
     scratch.cone.set(entered);
+    copy_row(flow.alloc, &mut scratch.left, &frame.mask)?;
+    take_out(&mut scratch.left, &frame.met);
+    take_one(&mut scratch.left, entered);
     scratch.due.clear();
     scratch.due.push(entered)?;
     list_new(&frame.mask, found, &mut scratch.words)?;
@@ -92,7 +95,9 @@ fn go_on<'a, S: RowSource>(
     requires portals { All (λ p. p < length flow.now.world.now.portals) portals.now }
     requires of_world { AreOfWorld flow.now.world.now (S.world source.old) (pairs_of flow.now) frame.now found.now }
     requires cone { length scratch.old.cone ≡ length (numbered_leaves flow.now.world.now.tree) }
+    requires left { AreLeft frame.now scratch.old.cone scratch.old.left }
     requires words { HaveAllNew frame.now.mask found.now scratch.old.words.items }
+    ensures left { OnOk result (AreLeft frame.now scratch.new.cone scratch.new.left) }
     ensures entered { OnOk result (AreEntered (LeadsInto flow.now.world.now flow.now.first frame.now found.now portals.now) scratch.old.cone scratch.new.cone scratch.old.due.items scratch.new.due.items) }
     ensures words { OnOk result (scratch.new.words.items ≡ scratch.old.words.items) }
     ensures on { S.goes_on source.old source.new }
@@ -103,7 +108,7 @@ fn go_on<'a, S: RowSource>(
     Ok(())
 }
 
-/// Enters the leaf of a portal, where it may lead on and was not entered.
+/// Enters the leaf of a portal, where it is left to enter and the portal may lead on.
 fn enter<'a, S: RowSource>(
     flow: &Flow<'a>,
     source: &mut S,
@@ -115,16 +120,15 @@ fn enter<'a, S: RowSource>(
     requires portal { portal < length flow.now.world.now.portals }
     requires of_world { AreOfWorld flow.now.world.now (S.world source.old) (pairs_of flow.now) frame.now found.now }
     requires cone { length scratch.old.cone ≡ length (numbered_leaves flow.now.world.now.tree) }
+    requires left { AreLeft frame.now scratch.old.cone scratch.old.left }
     requires words { HaveAllNew frame.now.mask found.now scratch.old.words.items }
+    ensures left { OnOk result (AreLeft frame.now scratch.new.cone scratch.new.left) }
     ensures entered { OnOk result (AreEntered (LeadsInto flow.now.world.now flow.now.first frame.now found.now (portal ∷ [])) scratch.old.cone scratch.new.cone scratch.old.due.items scratch.new.due.items) }
     ensures words { OnOk result (scratch.new.words.items ≡ scratch.old.words.items) }
     ensures on { S.goes_on source.old source.new }
 {
     let to = flow.world.to(portal);
-    if scratch.cone.get(to) {
-        return Ok(());
-    }
-    if !frame.may_enter(to) {
+    if !scratch.left.get(to) {
         return Ok(());
     }
     let words = &scratch.words;
@@ -132,6 +136,7 @@ fn enter<'a, S: RowSource>(
         return Ok(());
     }
     scratch.cone.set(to);
+    take_one(&mut scratch.left, to);
     scratch.due.push(to)?;
     Ok(())
 }

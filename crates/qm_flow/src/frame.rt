@@ -72,13 +72,13 @@ impl<'a> Frame<'a> {
         &self.state
     }
 
-    /// Whether the chain may enter a leaf: it was not in it before, and may still show it.
+    /// Whether the chain may enter a leaf: it may still show it, and was not in it before.
     pub(crate) fn may_enter(&self, leaf: u64) -> bool
         requires met { leaf < length self.now.met }
         requires mask { leaf < length self.now.mask }
         ensures { (result ≡ true) ↔ MayEnter self.now leaf }
     {
-        !self.met.get(leaf) && self.mask.get(leaf)
+        self.mask.get(leaf) && !self.met.get(leaf)
     }
 
     /// Takes off the portal that is to be tried next.

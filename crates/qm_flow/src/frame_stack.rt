@@ -46,10 +46,12 @@ impl<'a> FrameStack<'a> {
         ensures fresh { IfOk result (IsFreshStack world.now portal) }
     {
         let cone = BitRow::with_len(alloc, world.leaves())?;
+        let left = BitRow::with_len(alloc, world.leaves())?;
         let next = Frame::first(alloc, world, portal)?;
         let scratch = Scratch {
             steps: StepBuffers::new(alloc),
             cone,
+            left,
             due: Vec::new(alloc),
             words: Vec::new(alloc),
         };

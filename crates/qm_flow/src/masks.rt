@@ -3,7 +3,7 @@
 ghost use Rattle.std.specs.Prelude.{◌≡◌, ◌⊎◌, ◌<◌, true, false, length, slice_set, OnOk};
 ghost use Rattle.qm_lists.specs.WorkList.{IsIn};
 ghost use Rattle.qm_contacts.specs.NumberedLeaves.{numbered_leaves};
-ghost use Rattle.qm_chains.specs.inner.Narrowing.{IsNarrowed, ShowsNothingNew};
+ghost use Rattle.qm_chains.specs.inner.Narrowing.{IsNarrowed, IsWithout, ShowsNothingNew};
 ghost use Rattle.qm_chains.specs.inner.OwnRows.{AreOwnRows, MustHave, CanHave};
 ghost use Rattle.qm_sight.specs.WordInSight.{ceiling_of};
 ghost use Rattle.qm_flow.specs.inner.NewWords.{HaveAllNew};
@@ -11,7 +11,7 @@ ghost use Rattle.qm_flow.specs.inner.NewWords.{HaveAllNew};
 use crate::own_rows::OwnRows;
 use qm_bits::BitRow;
 use qm_sight::RowSource;
-use std::alloc::AllocError;
+use std::alloc::{AllocError, Global};
 
 /// Narrows a mask by the row of a portal. Where the mask has no leaf, nothing is read.
 pub(crate) fn narrow<S: RowSource>(own: &OwnRows, source: &mut S, portal: u64, mask: &mut BitRow)
@@ -27,6 +27,36 @@ pub(crate) fn narrow<S: RowSource>(own: &OwnRows, source: &mut S, portal: u64, m
             mask.and_word(k, word);
         }
     }
+}
+
+/// Makes a row a copy of another one, however long it was.
+pub(crate) fn copy_row(alloc: Global, row: &mut BitRow, other: &BitRow) -> Result<(), AllocError>
+    ensures { OnOk result (row.new ≡ other.now) }
+{
+    if row.len() != other.len() {
+        *row = BitRow::with_len(alloc, other.len())?;
+    }
+    row.copy_from(other);
+    Ok(())
+}
+
+/// Takes the leaves of another row out of a row.
+pub(crate) fn take_out(row: &mut BitRow, other: &BitRow)
+    requires { length other.now ≡ length row.old }
+    ensures { IsNarrowed (λ n. IsIn other.now n → ⊥) (λ n. IsIn other.now n → ⊥) row.old row.new }
+{
+    for k in 0..row.len().div_ceil(64) {
+        let word = other.word(k);
+        row.and_word(k, !word);
+    }
+}
+
+/// Takes one leaf out of a row.
+pub(crate) fn take_one(row: &mut BitRow, leaf: u64)
+    requires { leaf < length row.old }
+    ensures { IsWithout leaf row.old row.new }
+{
+    row.and_word(leaf / 64, !(1 << (leaf % 64)));
 }
 
 /// Lists the words in which a mask has a leaf that was not found.

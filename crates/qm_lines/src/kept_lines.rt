@@ -53,7 +53,7 @@ impl KeptLine {
 pub(crate) struct KeptLines {
     of_portals: Vec<Vec<KeptLine>>,
     most: u64,
-    // how many portals had their turn in this store, and how many in this or another one
+    // how many turns it had, and how many portals had their turn in this store or another
     turns: u64,
     over: u64,
 }
@@ -69,8 +69,8 @@ impl KeptLines {
         }
     }
 
-    /// The lines that are kept for a portal whose turn begins, of so many. Their places, and those of the portals before it, are
-    /// given back.
+    /// The lines that are kept for one of so many portals, whose turn begins. Their places, and those of the portals before it,
+    /// are given back.
     pub(crate) fn take(
         &mut self,
         alloc: Global,
@@ -109,8 +109,8 @@ impl KeptLines {
     }
 }
 
-/// How many lines a store keeps for each of so many portals, if it had so many of the turns that are over: its share of all
-/// places, which the stores of several workers have together.
+/// How many lines a store keeps for each of so many portals at most, if it had so many of the turns that are over. The stores of
+/// several workers share the places as they share the turns.
 fn most_for(turns: u64, over: u64, portals: u64) -> u64 {
     let share = PLACES.saturating_mul(turns).checked_div(over);
     match share.unwrap_or(PLACES).checked_div(portals) {

@@ -1,8 +1,9 @@
 -- The greatest common divisor by differences and halves.
-use Rattle.std.proofs.Common.{◌≡◌, ◌∙◌, ℕ, zero, suc, ◌+◌, ◌-◌, ◌*◌, ◌/◌, ◌%◌, ◌^◌, ◌<◌, ◌≤◌, min, max, ap, sym, subst, arith, w64, ⊎_elim, div-add-mod', mod-lt, eq-zero-or-pos}
+use Rattle.std.proofs.Common.{refl, ℤ, pos, negsuc, neg_ℤ, unsigned_abs, int_div, ◌≡◌, ◌∙◌, ℕ, zero, suc, ◌+◌, ◌-◌, ◌*◌, ◌/◌, ◌%◌, ◌^◌, ◌<◌, ◌≤◌, min, max, ap, sym, subst, arith, w64, ◌⊎◌, ⊎_elim, div-add-mod', mod-lt, eq-zero-or-pos}
+use Rattle.std.specs.Int.Signed.{shr_z}
 use Rattle.std.specs.Int.{◌∣◌, IsGcd, bit_at, trailing_zeros}
-use Rattle.std.proofs.Math.Nat.{dvd-add, dvd-add_iff_right, dvd-mul_left, dvd-mul_left_of_dvd, dvd-mul_right_of_dvd, dvd_of_mul-dvd-mul_right, mul-dvd-mul_right, div-mul_cancel, eq-zero_of_zero-dvd, mul_left_comm, mul-add, mul-one, mul_assoc, pow-suc, mul-le-mul_left, mod-eq_of_lt}
-use Rattle.std.proofs.lemmas.Nat.{pow-add, pow_pos, mod-pow-add}
+use Rattle.std.proofs.Math.Nat.{dvd-add, dvd-add_iff_right, dvd-mul_left, dvd-mul_left_of_dvd, dvd-mul_right_of_dvd, dvd-mul_right, dvd_of_mul-dvd-mul_right, mul-dvd-mul_right, div-mul_cancel, eq-zero_of_zero-dvd, mul_left_comm, mul-add, mul-one, mul_assoc, mul_comm, pow-suc, suc-mul, zero-mul, mul-le-mul_left, mod-eq_of_lt}
+use Rattle.std.proofs.lemmas.Nat.{div-mul-add, pow-add, pow_pos, mod-pow-add}
 use Rattle.std.proofs.lemmas.Nat.Bits.{bit_at-trailing_zeros}
 use Rattle.std.proofs.lemmas.Nat.Gcd.{IsGcd-swap, IsGcd-from_sub, IsGcd-from_zero, same_from_IsGcd, dvd_refl, dvd_trans, dvd-zero, le_of_dvd, dvd_of_mod-eq-zero, mod-eq-zero_of_dvd}
 use Rattle.std.proofs.lemmas.Bool.{cases_lt}
@@ -150,3 +151,25 @@ gcd_of_zero a b none = gcd_with_zero b a none ∙ gcd_swapped b a
 
 pub gcd_of_same : (a b : ℕ) → a ≡ b → IsGcd a b a
 gcd_of_same a b same = (dvd_refl a, subst (λ n. a ∣ n) same (dvd_refl a), λ d p q. p)
+
+-- ---- a division without a remainder
+
+-- a shift to the right divides exactly where no digit is lost
+pub shift_divides : (z : ℤ) (m : ℕ) → 0 < m → m ∣ unsigned_abs z → shr_z z m ≡ int_div z (pos m)
+shift_divides (pos n) m some h = refl
+shift_divides (negsuc n) m some h = ap negsuc rest ∙ ap (λ k. neg_ℤ (pos k)) (sym next)
+  where
+    whole : suc n / m * m ≡ suc n
+    whole = div-mul_cancel m h
+
+    less : ℕ
+    less = suc n / m - 1
+
+    next : suc n / m ≡ suc less
+    next = ⊎_elim (λ none. let e : suc n / m * m ≡ 0 = ap (λ (k : ℕ). k * m) none ∙ zero-mul m in let w = whole in absurd (omega arith)) (λ is. omega arith) (eq-zero-or-pos (suc n / m))
+
+    split : n ≡ less * m + (m - 1)
+    split = let e : suc n / m * m ≡ suc less * m = ap (λ k. k * m) next in let p = suc-mul less m in let w = whole in omega arith
+
+    rest : n / m ≡ less
+    rest = ap (λ k. k / m) split ∙ div-mul-add less m (m - 1) (omega arith)

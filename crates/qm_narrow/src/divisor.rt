@@ -35,7 +35,7 @@ fn divisor_of_odd(first: u64, second: u64) -> u64
 }
 
 /// The number without its factors of two.
-fn odd_part(number: u64) -> u64
+pub(crate) fn odd_part(number: u64) -> u64
     requires { 0 < number }
     ensures odd { result % 2 ≡ 1 }
     ensures product { result * 2 ^ trailing_zeros w64 number ≡ number }

@@ -1,12 +1,13 @@
 //! Normals in lowest terms, without a distance.
 
 ghost use Rattle.std.specs.Prelude.{◌≡◌, ◌<◌, ◌≤◌, ◌^◌, pos, unsigned_abs, int_div, MatchOption};
+ghost use Rattle.std.specs.Int.{◌∣◌};
 ghost use Rattle.qm_space.specs.Bounds.{normal_bound, whole_normal_bound};
 ghost use Rattle.qm_space.specs.ThreePoints.{common_factor};
 ghost use Rattle.qm_geom.specs.Vectors.{HasSmallComponents};
 ghost use Rattle.qm_narrow.specs.inner.Lowest.{level, IsLowestOf, HasNoLowest};
 
-use crate::divisor::divisor_by_halves;
+use crate::divisor::{divisor_by_halves, odd_part};
 use qm_geom::{Plane, Vector};
 
 /// The greatest component of a plane's normal.
@@ -44,11 +45,25 @@ fn factor_of(normal: &Vector) -> u64
 fn quotient(component: i64, factor: u64) -> Option<i32>
     requires factor_positive { 0 < factor }
     requires factor_small { factor < 2 ^ 63 }
+    requires divides { factor ∣ unsigned_abs component }
     ensures { MatchOption result (normal_bound < unsigned_abs (int_div component (pos factor))) (λ n. (n ≡ int_div component (pos factor)) × (unsigned_abs n ≤ normal_bound)) }
 {
-    let quotient = component / factor as i64;
+    let quotient = divided_exactly(component, factor);
     if quotient.unsigned_abs() > GREATEST_COMPONENT {
         return None;
     }
     Some(quotient as i32)
+}
+
+/// A number divided by one of its factors. A power of two needs no division.
+fn divided_exactly(number: i64, factor: u64) -> i64
+    requires factor_positive { 0 < factor }
+    requires factor_small { factor < 2 ^ 63 }
+    requires divides { factor ∣ unsigned_abs number }
+    ensures { result ≡ int_div number (pos factor) }
+{
+    if odd_part(factor) == 1 {
+        return number >> factor.trailing_zeros();
+    }
+    number / factor as i64
 }

@@ -67,6 +67,13 @@ pub record IsConeSoFar (world : World) (p : ℕ) (frame : Frame) (found : List B
   pub only : (n : ℕ) → Contains due n → IsIn row n
   pub gone_on : (from : ℕ) → IsIn row from → Contains due from ⊎ ((to : ℕ) → LeadsFrom world p frame found from to → IsIn row to)
 
+-- The leaves that are left to enter, where a cone has these so far: each leaf that the chain may enter is in the cone or left, and
+-- none that is left is in the cone.
+pub record AreLeft (frame : Frame) (cone left : List Bool) : Type 0 where
+  pub wide : length left ≡ length cone
+  pub all : (n : ℕ) → MayEnter frame n → IsIn cone n ⊎ IsIn left n
+  pub apart : (n : ℕ) → IsIn left n → IsIn cone n → ⊥
+
 -- leaves are entered, among them all to which it goes, and each of them is due
 pub record AreEntered (goes : ℕ → Type 0) (old new : List Bool) (old_due new_due : List ℕ) : Type 0 where
   pub same_length : length new ≡ length old

@@ -1,4 +1,4 @@
-use Rattle.std.specs.Prelude.{◌≡◌, ℕ, ◌/◌, ◌<◌, Bool, List, length}
+use Rattle.std.specs.Prelude.{◌≡◌, ◌↔◌, ℕ, ◌/◌, ◌<◌, Bool, List, length}
 use Rattle.qm_lists.specs.WorkList.{IsIn}
 
 -- A mask is narrowed by what was read of a row: it keeps each leaf that an answer must have, and it keeps only leaves that one
@@ -21,3 +21,8 @@ ShowsNothingNew Must mask found = (n : ℕ) → IsIn mask n → Must n → IsIn 
 -- so far, by the first words of the row
 abbrev pub ShowsNothingNewUpTo : (ℕ → Type 0) → ℕ → List Bool → List Bool → Type 0
 ShowsNothingNewUpTo Must words mask found = (n : ℕ) → n / 64 < words → IsIn mask n → Must n → IsIn found n
+
+-- a row loses one place and keeps all others
+pub record IsWithout (place : ℕ) (old new : List Bool) : Type 0 where
+  pub same_length : length new ≡ length old
+  pub exactly : (n : ℕ) → IsIn new n ↔ IsIn old n × (place ≡ n → ⊥)

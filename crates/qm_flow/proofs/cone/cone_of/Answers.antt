@@ -1,7 +1,10 @@
 use Rattle.std.proofs.Common.{◌≡◌, true, false, [], List, Bool, ℕ, length, set, sym, ap, ◌∙◌, subst, arith}
 use Rattle.std.proofs.lemmas.List.{nil_from_length, length-replicate}
 use Rattle.qm_lists.proofs.WorkLists.{place_within}
+use Rattle.qm_lists.specs.WorkList.{IsIn}
 use Rattle.qm_chains.specs.inner.Cone.{IsConeSoFar}
+use Rattle.qm_chains.specs.inner.Narrowing.{IsNarrowed}
+use Rattle.qm_chains.proofs.LeftToEnter.{left_begins}
 use Rattle.qm_chains.proofs.Entering.{cone_begins, leaf_in, leaving_within, cone_more, cone_less, cone_ends}
 use Rattle.qm_flow.specs.inner.FlowPairs.{pairs_of}
 use Rattle.qm_flow.proofs.LastElements.{pushed_to}
@@ -17,6 +20,11 @@ loop-leaf-init g c =
       so_far = cone_begins c.args.flow.now.world.now c.args.flow.now.first c.args.frame.now c.args.found.now c.args.entered (length c.args.scratch.now.cone) c.set.new.self c.push.new.self.items wide (omega (arith, wide, c.requires.entered))
           (c.set.ensures ∙ ap (λ (row : List Bool). set row c.args.entered true) c.clear.ensures)
           (pushed_to [] c.clear-2.new.self.items c.push.new.self.items c.args.entered c.in_ok-push.ensures.items c.clear-2.ensures.items);
+      left = left_begins c.args.frame.now c.args.entered (length c.args.scratch.now.cone) c.set.new.self c.take_out.new.row c.take_one.new.row (omega (arith, wide, c.requires.entered)) (c.requires.of_world.wide.mask ∙ sym wide)
+          (c.set.ensures ∙ ap (λ (row : List Bool). set row c.args.entered true) c.clear.ensures)
+          (subst (λ (f : Frame). IsNarrowed (λ n. IsIn f.met n → ⊥) (λ n. IsIn f.met n → ⊥) f.mask c.take_out.new.row) c.frame.view_is
+          (subst (λ (row : List Bool). IsNarrowed (λ n. IsIn c.frame.inside.met n → ⊥) (λ n. IsIn c.frame.inside.met n → ⊥) row c.take_out.new.row) c.in_ok-copy_row.ensures c.take_out.ensures))
+          c.take_one.ensures;
       words = subst (λ (mask : List Bool). HaveAllNew mask c.args.found.now c.list_new.new.words.items) (ap (λ (f : Frame). f.mask) c.frame.view_is) c.in_ok-list_new.ensures;
       on = g.met.S.RowSource.goes_on_itself c.args.source.now;
     }
@@ -41,6 +49,7 @@ pub loop-leaf-preserved : goal.loop-leaf-preserved
 loop-leaf-preserved g c = record {
   so_far = cone_more c.args.flow.now.world.now c.args.flow.now.first c.args.frame.now c.args.found.now c.args.entered c.loop-leaf.scratch.cone c.go_on.new.scratch.cone c.loop-leaf.scratch.due.items c.pop.new.self.items c.go_on.new.scratch.due.items c.in-Some.leaf c.in-Some.ensures.items c.loop-leaf.invariant.so_far
       c.leaving-portals.result.now c.leaving-portals.ensures c.in_ok-go_on.ensures.entered;
+  left = c.in_ok-go_on.ensures.left;
   words = subst (HaveAllNew c.args.frame.now.mask c.args.found.now) (sym c.in_ok-go_on.ensures.words) c.loop-leaf.invariant.words;
   on = g.met.S.RowSource.goes_on_in_turn c.args.source.now c.loop-leaf.source c.go_on.new.source c.loop-leaf.invariant.on c.go_on.ensures.on;
 }
@@ -84,3 +93,6 @@ returns-clause-wide g c = c.loop-leaf.invariant.so_far.wide
 
 pub returns-clause-on : goal.returns-clause-on
 returns-clause-on g c = c.loop-leaf.invariant.on
+
+pub go_on-requires-clause-left : goal.go_on-requires-clause-left
+go_on-requires-clause-left g c = c.loop-leaf.invariant.left

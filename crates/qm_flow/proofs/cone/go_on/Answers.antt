@@ -11,6 +11,7 @@ use Rattle.qm_flow.proofs.cone.go_on.Goals as goal
 pub loop-portal-init : goal.loop-portal-init
 loop-portal-init g c = record {
   entered = none_entered (LeadsInto c.args.flow.now.world.now c.args.flow.now.first c.args.frame.now c.args.found.now []) c.args.scratch.now.cone c.args.scratch.now.due.items (λ to leads. absurd (into_none c.args.flow.now.world.now c.args.flow.now.first c.args.frame.now c.args.found.now to leads));
+  left = c.requires.left;
   words = refl;
   on = g.met.S.RowSource.goes_on_itself c.args.source.now;
 }
@@ -37,6 +38,7 @@ loop-portal-preserved g c =
           (then_entered (LeadsInto world first frame found before) (LeadsInto world first frame found (number ∷ [])) (LeadsInto world first frame found (before ++ number ∷ []))
           c.args.scratch.now.cone c.loop-portal.scratch.cone c.enter.new.scratch.cone c.args.scratch.now.due.items c.loop-portal.scratch.due.items c.enter.new.scratch.due.items
           (into_cases world first frame found before number) c.loop-portal.invariant.entered c.in_ok-enter.ensures.entered);
+      left = c.in_ok-enter.ensures.left;
       words = c.in_ok-enter.ensures.words ∙ c.loop-portal.invariant.words;
       on = g.met.S.RowSource.goes_on_in_turn c.args.source.now c.loop-portal.source c.enter.new.source c.loop-portal.invariant.on c.enter.ensures.on;
     }
@@ -60,3 +62,9 @@ returns-in_err-enter-clause-on g c = g.met.S.RowSource.goes_on_in_turn c.args.so
 
 pub returns-clause-on : goal.returns-clause-on
 returns-clause-on g c = c.loop-portal.invariant.on
+
+pub enter-requires-clause-left : goal.enter-requires-clause-left
+enter-requires-clause-left g c = c.loop-portal.invariant.left
+
+pub returns-clause-left : goal.returns-clause-left
+returns-clause-left g c = c.loop-portal.invariant.left
