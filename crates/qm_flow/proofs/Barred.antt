@@ -29,9 +29,9 @@ leaves_in_sight_back world p number back leaf n first other q first_is other_is 
       portal = leads.again;
       portal_is = leads.again_is;
       sight = ⊎_elim
-      (λ left. subst (IsInSight world.tree leads.again) (sym left) (first_in_sight_back world.tree first leads.there n seen leads.again leads.from_is leads.to_is))
-      (λ entered. subst (IsInSight world.tree leads.again) (sym entered) (second_in_sight_back world.tree first leads.there n seen leads.again leads.from_is leads.to_is))
-      its;
+          (λ left. subst (IsInSight world.tree leads.again) (sym left) (first_in_sight_back world.tree first leads.there n seen leads.again leads.from_is leads.to_is))
+          (λ entered. subst (IsInSight world.tree leads.again) (sym entered) (second_in_sight_back world.tree first leads.there n seen leads.again leads.from_is leads.to_is))
+          its;
     }
 
 -- so where a sound answer for the portal back has not one of them, nothing is seen via the portal
