@@ -1,4 +1,4 @@
--- The fault that reading a tree file gives is the first in the order of the bytes, in words.
+-- The fault that reading a tree file gives is the first in the order of its parts, in words.
 use Rattle.std.proofs.Common.{◌≡◌, ◌<◌, ◌≤◌, ◌⊎◌, ◌^◌, ◌&&◌, ℕ, zero, suc, ◌+◌, ◌-◌, ◌*◌, Bool, true, false, cond, eqb, ltb, leb, get_or, List, [], ◌∷◌, ◌++◌, length, take, drop, codes, Some, Result, Ok, Err, refl, sym, ap, ◌∙◌, subst, append_assoc, take-append-drop, arith, inl, inr}
 use Rattle.std.specs.Prelude.{count_by}
 use Rattle.std.specs.Int.{w8, w32, w64}

@@ -3,7 +3,7 @@ use Rattle.qm_formats.specs.Layout.{Layout, each_from}
 use Rattle.qm_formats.specs.Exact.{IsRightAt}
 use Rattle.qm_formats.specs.FileParts.{FileFaultKind, short}
 
--- Which fault there is where parts of a file are due one behind the other: the first in the order of the bytes, and its place.
+-- Which fault there is where parts of a file are due one after another: the first in the order of the parts, and its place.
 
 -- where a part is due at a place of a file: which fault it has, and the place of the fault
 abbrev pub Faults : Type 1

@@ -12,7 +12,7 @@ use Rattle.qm_formats.specs.TreeFile.{Section, TreeFile}
 use Rattle.qm_formats.specs.FileLayout.{Header, magic_layout, count_layout, flag_layout, bound_layout, file_header_layout, own_row_layout, planes_layout, nodes_layout, rows_layout, tree_layout, section_head_layout, section_layout, file_limit, IsFileOf}
 use Rattle.qm_file.specs.FirstFault.{Faults, EndsWithin, IsNoneAt, IsCutOff, IsFaultOfRecord, IsFaultInTurn, IsFaultFromRecord, IsFaultOfEach}
 
--- Which fault the bytes of a tree file have: the first in their order, and its place. Each record has its length and its fault.
+-- Which fault the bytes of a tree file have: the first in the order of its parts, and its place. Each record has its length and its fault.
 
 -- the file ends inside the eight magic bytes; or they are there, and from one of them on they are those of neither version
 pub data IsMagicFault (file : List ℕ) (at : ℕ) : FileFaultKind → ℕ → Type 0 where

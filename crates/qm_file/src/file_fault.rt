@@ -5,7 +5,7 @@ use crate::field_reading::CutOff;
 use std::alloc::{AllocError, AllocFailed};
 use thiserror::Error;
 
-/// Why bytes are no tree file: the first fault in the order of the file, and its place.
+/// Why bytes are no tree file: the first fault in the order of its parts, and its place.
 #[derive(Clone, Copy, Debug, PartialEq, Eq, Error)]
 pub enum FileFault {
     /// The bytes end inside a part that is due.

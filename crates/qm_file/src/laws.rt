@@ -28,7 +28,7 @@ pub fn read_tree_file()
     ensures { (bytes : List ℕ) (file : TreeFile) → AreBytes bytes → (read_file bytes ≡ got file (length bytes) ↔ IsFileOf bytes file) }
 {}
 
-/// The fault that reading gives is the first in the order of the bytes, in words.
+/// The fault that reading gives is the first in the order of the parts, in words.
 pub fn first_tree_fault()
     ensures { (bytes : List ℕ) (fault : FileFaultKind) (place : ℕ) → AreBytes bytes → (read_file bytes ≡ bad fault place ↔ IsFaultOfFileBytes bytes fault place) }
 {}

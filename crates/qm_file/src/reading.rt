@@ -14,7 +14,7 @@ use std::alloc::Global;
 /// The most bytes of a file that is read.
 const FILE_LIMIT: usize = 1 << 30;
 
-/// The tree file of bytes, or the first fault in the order of the file. Bytes past the limit are a fault before any other.
+/// The tree file of bytes, or the first fault in the order of its parts. Bytes past the limit are a fault before any other.
 pub fn decode(alloc: Global, bytes: &[u8]) -> Result<TreeFile, FileFault>
     // What is read is valid and written so.
     ensures found { IfOk result (λ file. IsValidFile file × (bytes.now ≡ file_bytes file) × (length bytes.now ≤ file_limit)) }
