@@ -5,6 +5,7 @@ mod FirstFrames
 mod FirstMasks
 mod FoundRows
 mod FourLeaves
+mod GoneThrough
 mod LastElements
 mod LastFrames
 mod NewWords

@@ -1,13 +1,17 @@
 -- Words of a mask that have something new: they are listed one after another, and a row that shows nothing in them shows nothing new.
 use Rattle.std.proofs.Common.{◌≡◌, ⊎_elim, ℕ, zero, suc, ◌+◌, ◌*◌, ◌/◌, ◌^◌, ◌<◌, Bool, true, false, List, [], ◌∷◌, ◌++◌, Contains, get_or, bit_and, w64, sym, ◌∙◌, subst, arith}
 use Rattle.std.specs.Int.{bit_not}
+use Rattle.std.specs.Int.Bits.{and_lt}
+use Rattle.std.proofs.lemmas.Bool.{and_parts, not-true}
 use Rattle.std.proofs.lemmas.List.Elements.{Contains-append_left, Contains-append_right, Contains-append_cases}
+use Rattle.qm_lists.specs.Unseen.{HasUnseen}
 use Rattle.qm_lists.specs.Word.{has_bit, IsWord}
 use Rattle.qm_lists.specs.WorkList.{IsIn}
+use Rattle.qm_lists.proofs.Bits.{has_bit-and, has_bit-not, some_bit}
 use Rattle.qm_lists.proofs.Elements.{Contains-first}
 use Rattle.qm_chains.specs.inner.Narrowing.{ShowsNothingNew, ShowsNothingNewUpTo}
 use Rattle.qm_chains.proofs.Words.{shows_none_there}
-use Rattle.qm_chains.proofs.TriedPortals.{in_or_clear}
+use Rattle.qm_chains.proofs.TriedPortals.{in_or_clear, not_in_if_clear}
 
 only_one : {X : Type 0} (a x : X) → Contains (a ∷ []) x → x ≡ a
 only_one a x (zero, within, is) = sym is
@@ -42,3 +46,15 @@ module _ (mask found : List Bool) where
         (λ is. is)
         (λ clear. others n in_mask (λ has. absurd (let is : get_or found n false ≡ true = none n in_mask (must, has) in let never : true ≡ false = sym is ∙ clear in cc)))
         (in_or_clear found n)
+
+-- ---- something new, or nothing
+
+-- a bit of a word of the mask that is clear in the word of what was found
+pub new_in_word : (mask found : List Bool) (k mask_word found_word : ℕ) → IsWord mask k mask_word → IsWord found k found_word → mask_word < 2 ^ 64 → found_word < 2 ^ 64 → (bit_and mask_word (bit_not w64 found_word) ≡ 0 → ⊥) → HasUnseen mask found
+new_in_word mask found k mask_word found_word is_mask is_found mask_small found_small some =
+    let at = some_bit (bit_and mask_word (bit_not w64 found_word)) (and_lt 64 mask_word (bit_not w64 found_word) mask_small (omega arith)) (omega (arith, some)) in
+    let parts = and_parts (has_bit mask_word at.0) (has_bit (bit_not w64 found_word) at.0) (sym (has_bit-and mask_word (bit_not w64 found_word) at.0) ∙ at.2) in
+    (64 * k + at.0, sym (is_mask at.0 at.1) ∙ parts.0, sym (is_found at.0 at.1) ∙ not-true (has_bit found_word at.0) (sym (has_bit-not found_word at.0 found_small at.1) ∙ parts.1))
+
+pub none_new : (mask found : List Bool) → ShowsNothingNew (λ n. Unit {0}) mask found → HasUnseen mask found → ⊥
+none_new mask found none new = not_in_if_clear found new.0 new.2 (none new.0 new.1 tt)

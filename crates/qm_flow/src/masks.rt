@@ -1,6 +1,8 @@
 //! Rows of a flow, word by word.
 
-ghost use Rattle.std.specs.Prelude.{◌≡◌, ◌⊎◌, ◌<◌, true, false, length, slice_set, OnOk};
+ghost use Rattle.std.specs.Prelude.{◌≡◌, ◌↔◌, ◌⊎◌, ◌*◌, ◌<◌, true, false, length, slice_set, OnOk};
+ghost use Rattle.qm_lists.specs.Unseen.{HasUnseen};
+ghost use Rattle.qm_lists.specs.Word.{IsWord};
 ghost use Rattle.qm_lists.specs.WorkList.{IsIn};
 ghost use Rattle.qm_contacts.specs.NumberedLeaves.{numbered_leaves};
 ghost use Rattle.qm_chains.specs.inner.Narrowing.{IsNarrowed, IsWithout, ShowsNothingNew};
@@ -75,6 +77,34 @@ pub(crate) fn list_new(
         }
     }
     Ok(())
+}
+
+/// Whether a mask has a leaf beside this one that was not found.
+pub(crate) fn has_new_beside(mask: &BitRow, found: &BitRow, leaf: u64) -> bool
+    requires leaf { leaf < length found.now }
+    requires found { length found.now ≡ length mask.now }
+    ensures { (result ≡ true) ↔ HasUnseen mask.now (slice_set found.now leaf true) }
+{
+    for k in 0..mask.len().div_ceil(64) {
+        if mask.word(k) & !word_with(found, leaf, k) != 0 {
+            return true;
+        }
+    }
+    false
+}
+
+/// Word `k` of a row, if one place more is set.
+fn word_with(row: &BitRow, place: u64, k: u64) -> u64
+    requires place { place < length row.now }
+    requires word { 64 * k < length row.now }
+    ensures { IsWord (slice_set row.now place true) k result }
+{
+    let word = row.word(k);
+    if k == place / 64 {
+        word | 1 << (place % 64)
+    } else {
+        word
+    }
 }
 
 /// Whether a portal may show a leaf that the mask has, and that was not found. All words that have such a leaf are listed. Of a

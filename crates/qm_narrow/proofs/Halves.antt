@@ -1,8 +1,8 @@
 -- The greatest common divisor by differences and halves.
-use Rattle.std.proofs.Common.{refl, ℤ, pos, negsuc, neg_ℤ, unsigned_abs, int_div, ◌≡◌, ◌∙◌, ℕ, zero, suc, ◌+◌, ◌-◌, ◌*◌, ◌/◌, ◌%◌, ◌^◌, ◌<◌, ◌≤◌, min, max, ap, sym, subst, arith, w64, ◌⊎◌, ⊎_elim, div-add-mod', mod-lt, eq-zero-or-pos}
+use Rattle.std.proofs.Common.{refl, ℤ, pos, negsuc, neg_ℤ, unsigned_abs, int_div, ◌≡◌, ◌∙◌, ℕ, zero, suc, ◌+◌, ◌-◌, ◌*◌, ◌/◌, ◌%◌, ◌^◌, ◌<◌, ◌≤◌, min, max, ap, sym, subst, arith, w64, ⊎_elim, div-add-mod', mod-lt, eq-zero-or-pos}
 use Rattle.std.specs.Int.Signed.{shr_z}
 use Rattle.std.specs.Int.{◌∣◌, IsGcd, bit_at, trailing_zeros}
-use Rattle.std.proofs.Math.Nat.{dvd-add, dvd-add_iff_right, dvd-mul_left, dvd-mul_left_of_dvd, dvd-mul_right_of_dvd, dvd-mul_right, dvd_of_mul-dvd-mul_right, mul-dvd-mul_right, div-mul_cancel, eq-zero_of_zero-dvd, mul_left_comm, mul-add, mul-one, mul_assoc, mul_comm, pow-suc, suc-mul, zero-mul, mul-le-mul_left, mod-eq_of_lt}
+use Rattle.std.proofs.Math.Nat.{dvd-add, dvd-add_iff_right, dvd-mul_left, dvd-mul_left_of_dvd, dvd-mul_right_of_dvd, dvd_of_mul-dvd-mul_right, mul-dvd-mul_right, div-mul_cancel, eq-zero_of_zero-dvd, mul_left_comm, mul-add, mul-one, mul_assoc, pow-suc, suc-mul, zero-mul, mul-le-mul_left, mod-eq_of_lt}
 use Rattle.std.proofs.lemmas.Nat.{div-mul-add, pow-add, pow_pos, mod-pow-add}
 use Rattle.std.proofs.lemmas.Nat.Bits.{bit_at-trailing_zeros}
 use Rattle.std.proofs.lemmas.Nat.Gcd.{IsGcd-swap, IsGcd-from_sub, IsGcd-from_zero, same_from_IsGcd, dvd_refl, dvd_trans, dvd-zero, le_of_dvd, dvd_of_mod-eq-zero, mod-eq-zero_of_dvd}

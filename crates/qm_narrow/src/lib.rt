@@ -3,6 +3,7 @@
 
 mod across;
 mod aims;
+mod bare_state;
 mod beam;
 mod candidates;
 mod chain_state;
@@ -36,4 +37,4 @@ pub use chain_state::ChainState;
 pub use passing::may_pass;
 pub use separating::separators;
 pub use step_buffers::StepBuffers;
-pub use stepping::{step, step_into};
+pub use stepping::{leads_on, step, step_into};

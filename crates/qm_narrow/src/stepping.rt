@@ -5,11 +5,12 @@ ghost use Rattle.qm_convex.specs.Sides.{LiesIn};
 ghost use Rattle.qm_convex.specs.Cut.{IsPartInFront};
 ghost use Rattle.qm_separators.specs.Part.{IsPartBy, HasNoPartBy};
 ghost use Rattle.qm_separators.specs.Separator.{IsSeparatorFrom};
-ghost use Rattle.qm_separators.specs.ChainState.{IsChainState};
+ghost use Rattle.qm_separators.specs.ChainState.{ChainState, IsChainState};
 ghost use Rattle.qm_separators.specs.ChainStep.{StepsTo, Blocks};
 ghost use Rattle.qm_separators.specs.inner.Narrowed.{NarrowsTo, CutsAway};
 ghost use Rattle.qm_narrow.specs.inner.LastCut.{EndsAt};
 
+use crate::bare_state::BareState;
 use crate::chain_state::ChainState;
 use crate::seeing::is_seen_whole;
 use crate::separating::list_separators_from;
@@ -57,6 +58,25 @@ pub fn step_into(
     }
 }
 
+/// Whether the step from a state through a portal leads on, as `step` makes it. No separators of the next state are listed.
+pub fn leads_on(
+    alloc: Global,
+    buffers: &mut StepBuffers,
+    state: &ChainState,
+    next: &Pane,
+) -> Result<bool, AllocError>
+    ensures leads { IfOk result (λ leads. leads ≡ true → (after : ChainState) × StepsTo state.now next.now.winding next.now.into after) }
+    ensures blocks { IfOk result (λ leads. leads ≡ false → Blocks state.now next.now.winding next.now.into) }
+{
+    match bare_step(alloc, buffers, state, next)? {
+        None => Ok(false),
+        Some(after) => {
+            after.give_lists(buffers);
+            Ok(true)
+        }
+    }
+}
+
 /// The step, with memory that is used again.
 fn step_with(
     alloc: Global,
@@ -64,6 +84,24 @@ fn step_with(
     state: &ChainState,
     next: &Pane,
 ) -> Result<Option<ChainState>, AllocError>
+    ensures { IfOk result (λ after. MatchOption after (Blocks state.now next.now.winding next.now.into) (StepsTo state.now next.now.winding next.now.into)) }
+{
+    match bare_step(alloc, buffers, state, next)? {
+        None => Ok(None),
+        Some(bare) => {
+            let after = bare.listed(alloc, buffers)?;
+            Ok(Some(after))
+        }
+    }
+}
+
+/// The step, but for the separators of the state to which it leads.
+fn bare_step(
+    alloc: Global,
+    buffers: &mut StepBuffers,
+    state: &ChainState,
+    next: &Pane,
+) -> Result<Option<BareState>, AllocError>
     ensures { IfOk result (λ after. MatchOption after (Blocks state.now next.now.winding next.now.into) (StepsTo state.now next.now.winding next.now.into)) }
 {
     let copy = next.winding.copy()?;
@@ -80,7 +118,7 @@ fn after_far_cut(
     state: &ChainState,
     next: &Pane,
     far: Winding,
-) -> Result<Option<ChainState>, AllocError>
+) -> Result<Option<BareState>, AllocError>
     requires { IsPartInFront far next.now.winding state.now.into }
     ensures { IfOk result (λ after. MatchOption after (Blocks state.now next.now.winding next.now.into) (StepsTo state.now next.now.winding next.now.into)) }
 {
@@ -97,7 +135,7 @@ fn narrowed_whole(
     buffers: &mut StepBuffers,
     state: &ChainState,
     far: Winding,
-) -> Result<Option<ChainState>, AllocError>
+) -> Result<Option<BareState>, AllocError>
     ensures { IfOk result (λ after. MatchOption after (CutsAway state.now state.now.source far) (NarrowsTo state.now state.now.source far)) }
 {
     match far.keep_all(state.separators())? {
@@ -112,7 +150,7 @@ fn last_cut_whole(
     buffers: &mut StepBuffers,
     state: &ChainState,
     pass: Winding,
-) -> Result<Option<ChainState>, AllocError>
+) -> Result<Option<BareState>, AllocError>
     ensures { IfOk result (λ after. MatchOption after (HasNoPartBy state.now.source (IsSeparatorFrom state.now.pass pass)) (EndsAt state.now state.now.source pass)) }
 {
     let _source = state.source();
@@ -127,7 +165,7 @@ fn narrowed_part(
     state: &ChainState,
     near: Winding,
     far: Winding,
-) -> Result<Option<ChainState>, AllocError>
+) -> Result<Option<BareState>, AllocError>
     requires { LiesIn near state.now.into }
     ensures { IfOk result (λ after. MatchOption after (CutsAway state.now near far) (NarrowsTo state.now near far)) }
 {
@@ -149,15 +187,14 @@ fn last_cut(
     state: &ChainState,
     near: Traced,
     pass: Winding,
-) -> Result<Option<ChainState>, AllocError>
+) -> Result<Option<BareState>, AllocError>
     requires { LiesIn near state.now.into }
     ensures { IfOk result (λ after. MatchOption after (HasNoPartBy near (IsSeparatorFrom state.now.pass pass)) (EndsAt state.now near pass)) }
 {
     let _corners = near.len();
     let pass = buffers.trace_pass(alloc, pass)?;
     if is_seen_whole(&near, state.pass(), &pass) {
-        let after = ChainState::of(buffers.take_planes(alloc), near, state.into(), Some(pass))?;
-        return Ok(Some(after));
+        return Ok(Some(BareState::of(near, state.into(), pass)));
     }
     let near = buffers.keep_source(near);
     last_cut_by_separators(alloc, buffers, state, near, pass)
@@ -170,7 +207,7 @@ fn last_cut_by_separators(
     state: &ChainState,
     near: Winding,
     pass: Traced,
-) -> Result<Option<ChainState>, AllocError>
+) -> Result<Option<BareState>, AllocError>
     requires { LiesIn near state.now.into }
     ensures { IfOk result (λ after. MatchOption after (HasNoPartBy near (IsSeparatorFrom state.now.pass pass)) (EndsAt state.now near pass)) }
 {
@@ -193,12 +230,12 @@ fn last_state(
     state: &ChainState,
     source: Winding,
     pass: Traced,
-) -> Result<ChainState, AllocError>
+) -> Result<BareState, AllocError>
     requires { IsChainState (record { source = source; into = state.now.into; pass = Some pass }) }
     ensures { IfOk result (λ after. after ≡ record { source = source; into = state.now.into; pass = Some pass }) }
 {
     let source = buffers.trace_source(alloc, source)?;
-    ChainState::of(buffers.take_planes(alloc), source, state.into(), Some(pass))
+    Ok(BareState::of(source, state.into(), pass))
 }
 
 /// What a winding has in front of the separators of another one and the last pass.

@@ -2,10 +2,12 @@ use Rattle.std.specs.Prelude.{◌≡◌, ◌⊎◌, ℕ, Bool, List, [], ◌∷�
 use Rattle.qm_contacts.specs.NumberedLeaves.{numbered_leaves}
 use Rattle.qm_contacts.specs.World.{World}
 use Rattle.qm_chains.specs.inner.Frame.{Frame, put_back, EndsChain}
+use Rattle.qm_chains.specs.inner.Narrowing.{IsNarrowed}
+use Rattle.qm_chains.specs.inner.OwnRows.{MustHave, CanHave}
 use Rattle.qm_chains.specs.inner.Pairs.{Pairs, ArePairs, LieWithinPairs}
 use Rattle.qm_chains.specs.inner.Search.{IsFrameOf, IsLookedThrough}
 use Rattle.qm_chains.specs.inner.Walk.{IsTried}
-use Rattle.qm_sight.specs.WordInSight.{LieWithin}
+use Rattle.qm_sight.specs.WordInSight.{ceiling_of, LieWithin}
 use Rattle.qm_sight.specs.InCeiling.{IsInCeiling}
 
 -- One round over the frames of a walk or of a search.
@@ -22,6 +24,11 @@ pub record IsTry (world : World) (now : List (List Bool)) (pairs : Pairs) (frame
   pub looked : IsLookedThrough world pairs.first frame number old new child
   pub tried : (ceilings : List (List Bool)) → LieWithin now ceilings → LieWithinPairs (IsInCeiling ceilings) pairs.own →
       EndsChain world (IsInCeiling ceilings) pairs.first (put_back number frame) → IsTried world (IsInCeiling ceilings) pairs.first frame number old new child
+
+-- a try with this mask for the next frame, over whichever ceilings the row of the portal has narrowed it
+abbrev pub TriesBy : World → Pairs → Frame → ℕ → List Bool → List Bool → List Bool → Option Frame → Type 0
+TriesBy world pairs frame number mask old new child = (now : List (List Bool)) →
+    IsNarrowed (MustHave world pairs.own number) (CanHave (ceiling_of now number) pairs.own number) frame.mask mask → IsTry world now pairs frame number old new child
 
 -- no portal was left at the last frame, which has ended
 pub record HasEndedLast (frames after : List Frame) (old new : List Bool) : Type 0 where

@@ -1,4 +1,4 @@
-use Rattle.std.proofs.Common.{ap, sym, subst, unsigned_abs, w64}
+use Rattle.std.proofs.Common.{sym, subst, unsigned_abs, w64}
 use Rattle.std.specs.Int.{◌∣◌}
 use Rattle.std.proofs.lemmas.Int.{to_z-of_z}
 use Rattle.qm_narrow.proofs.lowest.quotient.Goals as goal
