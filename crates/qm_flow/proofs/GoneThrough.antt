@@ -1,5 +1,5 @@
 -- A chain that goes through a portal: what its try is, by the mask for the next frame, and by what is found.
-use Rattle.std.proofs.Common.{◌≡◌, ⊎_elim, inl, inr, ℕ, ◌<◌, true, false, Bool, List, [], length, set, Option, None, get_or, sym, ap, ◌∙◌, subst, arith}
+use Rattle.std.proofs.Common.{◌≡◌, ⊎_elim, inl, inr, ℕ, ◌<◌, true, false, Bool, List, [], length, set, Option, None, get_or, ◌∙◌, subst, arith}
 use Rattle.std.proofs.lemmas.List.{length-set, get_or-set_other}
 use Rattle.qm_lists.specs.Unseen.{HasUnseen}
 use Rattle.qm_lists.specs.WorkList.{IsIn}
@@ -62,10 +62,14 @@ module _ (world : World) (pairs : Pairs) (frame : Frame) (portal : ℕ) (found :
     all_found : (n : ℕ) → IsIn mask n → IsIn row n
     all_found n in_mask = ⊎_elim
         (λ is. is)
-        (λ clear. absurd (alone (n, in_mask, ⊎_elim
-        (λ set_it. subst (λ (r : List Bool). get_or r n false ≡ false) set_it.1 clear)
-        (λ kept. get_or-set_other found q.to n true false (λ here. kept.0 (subst (IsIn mask) here in_mask)) ∙ subst (λ (r : List Bool). get_or r n false ≡ false) kept.1 clear)
-        finds)))
+        (λ clear. absurd (alone (
+          n,
+          in_mask,
+          ⊎_elim
+              (λ set_it. subst (λ (r : List Bool). get_or r n false ≡ false) set_it.1 clear)
+              (λ kept. get_or-set_other found q.to n true false (λ here. kept.0 (subst (IsIn mask) here in_mask)) ∙ subst (λ (r : List Bool). get_or r n false ≡ false) kept.1 clear)
+              finds,
+        )))
         (in_or_clear row n)
 
     looked_alone : IsLookedThrough world pairs.first frame portal found row None

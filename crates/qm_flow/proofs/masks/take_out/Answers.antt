@@ -1,4 +1,4 @@
-use Rattle.std.proofs.Common.{◌≡◌, ℕ, ◌+◌, ◌*◌, ◌^◌, ◌<◌, true, false, not, Bool, List, length, w64, sym, ap, ◌∙◌, subst, arith}
+use Rattle.std.proofs.Common.{◌≡◌, ℕ, ◌+◌, ◌*◌, ◌^◌, ◌<◌, true, false, not, Bool, List, w64, sym, ap, ◌∙◌, arith}
 use Rattle.std.specs.Int.{bit_not}
 use Rattle.qm_lists.specs.Word.{has_bit, IsWord}
 use Rattle.qm_lists.specs.WorkList.{IsIn}

@@ -1,4 +1,4 @@
-use Rattle.std.proofs.Common.{◌≡◌, ◌<◌, ℕ, true, List, Bool, length, set, sym, ap, ◌∙◌, subst, arith, ⊎_elim}
+use Rattle.std.proofs.Common.{◌<◌, ℕ, true, List, Bool, length, set, sym, ap, ◌∙◌, subst, arith, ⊎_elim}
 use Rattle.std.specs.Bool.{then_some}
 use Rattle.std.proofs.lemmas.Result.{IfOk-weaker}
 use Rattle.std.proofs.lemmas.List.{length-set}

@@ -1,11 +1,9 @@
-use Rattle.std.proofs.Common.{◌≡◌, ◌<◌, ℕ, true, List, Bool, length, set, ap, subst, arith}
-use Rattle.qm_lists.specs.Unseen.{HasUnseen}
+use Rattle.std.proofs.Common.{◌<◌, ℕ, length, ap, subst}
 use Rattle.qm_contacts.specs.NumberedLeaves.{numbered_leaves}
 use Rattle.qm_chains.specs.inner.Frame.{Frame, blocked}
 use Rattle.qm_chains.proofs.TriedPortals.{looked_stopped, FindsLast}
 use Rattle.qm_flow.specs.inner.FlowPairs.{pairs_of}
 use Rattle.qm_flow.proofs.Attempts.{try_none}
-use Rattle.qm_flow.proofs.FoundRows.{found_stays}
 use Rattle.qm_flow.proofs.GoneThrough.{try_alone}
 use Rattle.qm_flow.proofs.Panes.{steps_on, blocked_there}
 use Rattle.qm_flow.proofs.step.find_alone.Goals as goal
