@@ -39,7 +39,7 @@ impl<'a> MeasuredPane<'a> {
     }
 
     /// Its extent.
-    pub fn extent(&self) -> &Extent
+    pub fn measure(&self) -> &Extent
         ensures { IsExtentOf self.now result.now }
     {
         self.extent
