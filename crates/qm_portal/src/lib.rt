@@ -4,6 +4,7 @@
 
 mod bounds;
 mod cell;
+mod exit;
 mod finding;
 pub mod laws;
 mod leaving;
@@ -21,6 +22,7 @@ mod touching;
 mod walk;
 mod worlds;
 
+pub use exit::Exit;
 pub use finding::touches;
 pub use making::world;
 pub use touch_list::TouchList;

@@ -1,10 +1,12 @@
 //! The world of a tree and its contacts.
 
-ghost use Rattle.std.specs.Prelude.{◌≡◌, IfOk};
+ghost use Rattle.std.specs.Prelude.{◌≡◌, ◌<◌, All, length, IfOk};
 ghost use Rattle.qm_contacts.specs.Contacts.{AreContacts};
 ghost use Rattle.qm_contacts.specs.Portals.{portals_of};
 ghost use Rattle.qm_contacts.specs.inner.WorldParts.{leaves_to};
+ghost use Rattle.qm_portal.specs.inner.WorldExits.{AreExits};
 
+use crate::exit::Exit;
 use crate::leaving::Leaving;
 use crate::numbers::Numbers;
 use crate::passages::portals;
@@ -24,7 +26,9 @@ pub fn world(alloc: Global, tree: &Tree, touches: &TouchList) -> Result<World, A
     let portals = portals(alloc, tree, &numbers.before, touches.touchings())?;
     let leaving = Leaving::of(alloc, &portals, numbers.numbered.len())?;
     let entered = entered_leaves(alloc, &portals)?;
-    Ok(World::of(tree.copy(alloc)?, numbers, portals, entered, leaving))
+    let exits = exits_at(alloc, &portals, &leaving.places)?;
+    let tree = tree.copy(alloc)?;
+    Ok(World::of(tree, numbers, portals, entered, leaving, exits))
 }
 
 /// The leaf that each portal enters.
@@ -36,4 +40,16 @@ fn entered_leaves(alloc: Global, portals: &[Portal]) -> Result<Vec<u64>, AllocEr
         entered.push(portal.to)?;
     }
     Ok(entered)
+}
+
+/// The portals at some places as exits, in the order of the places.
+fn exits_at(alloc: Global, portals: &[Portal], places: &[u64]) -> Result<Vec<Exit>, AllocError>
+    requires { All (λ place. place < length portals.now) places.now }
+    ensures { IfOk result (λ exits. AreExits portals.now places.now exits.items) }
+{
+    let mut exits = Vec::with_capacity(alloc, places.len())?;
+    for place in places {
+        exits.push(Exit::of(portals, *place))?;
+    }
+    Ok(exits)
 }

@@ -1,14 +1,18 @@
-ghost use Rattle.std.specs.Prelude.{◌≡◌, ◌<◌, length, Contains, Some, slice_get, MatchOption};
+ghost use Rattle.std.specs.Prelude.{◌≡◌, ◌<◌, length, Contains, Some, All, map, slice_get, MatchOption};
 ghost use Rattle.qm_partition.specs.Counting.{leaf_count};
 ghost use Rattle.qm_contacts.specs.NumberedLeaves.{numbered_leaves};
 ghost use Rattle.qm_contacts.specs.Portals.{Portal as PortalRecord};
 ghost use Rattle.qm_contacts.specs.World.{AreLeaving, LeadsBack};
 ghost use Rattle.qm_contacts.specs.OwnPortals.{HasOwnPortals};
 ghost use Rattle.qm_contacts.specs.inner.WorldParts.{AreWorldParts};
+ghost use Rattle.qm_portal.specs.Exits.{IsExitOf};
+ghost use Rattle.qm_portal.specs.inner.WorldExits.{AreExits};
 
+use crate::exit::Exit;
 use crate::leaving::Leaving;
 use crate::numbers::{Numbers, is_numbered};
 use crate::portal::Portal;
+use qm_extents::MeasuredPane;
 use qm_tree::Tree;
 use qm_wind::Pane;
 use std::marker::Model;
@@ -22,6 +26,8 @@ pub struct World {
     /// The leaf that each portal enters, in a list of its own: a portal is large, and flows ask for this leaf most.
     entered: Vec<u64>,
     leaving: Leaving,
+    /// The portals at the places of `leaving`: the few numbers of each that floods ask for lie side by side.
+    exits: Vec<Exit>,
 }
 
 impl Model for World {
@@ -29,6 +35,7 @@ impl Model for World {
     ghost use Rattle.qm_partition.specs.inner.TreeCode.{tree_code};
     ghost use Rattle.qm_contacts.specs.World.{World};
     ghost use Rattle.qm_contacts.specs.inner.WorldParts.{AreWorldParts};
+    ghost use Rattle.qm_portal.specs.inner.WorldExits.{AreExits};
 
     ghost Value = { World };
 
@@ -36,7 +43,7 @@ impl Model for World {
 
     ghost view = { λ world. record { tree = world.tree; portals = world.portals.items } };
 
-    ghost invariant = { λ world. AreWorldParts world.tree world.portals.items world.entered.items world.numbers.numbered.items world.numbers.before.items world.leaving.begins.items world.leaving.places.items };
+    ghost invariant = { λ world. AreWorldParts world.tree world.portals.items world.entered.items world.numbers.numbered.items world.numbers.before.items world.leaving.begins.items world.leaving.places.items × AreExits world.portals.items world.leaving.places.items world.exits.items };
 }
 
 impl World {
@@ -47,8 +54,10 @@ impl World {
         portals: Vec<Portal>,
         entered: Vec<u64>,
         leaving: Leaving,
+        exits: Vec<Exit>,
     ) -> World
-        requires { AreWorldParts tree portals.items entered.items numbers.numbered.items numbers.before.items leaving.begins.items leaving.places.items }
+        requires parts { AreWorldParts tree portals.items entered.items numbers.numbered.items numbers.before.items leaving.begins.items leaving.places.items }
+        requires exits { AreExits portals.items leaving.places.items exits.items }
         ensures { result ≡ record { tree = tree; portals = portals.items } }
     {
         World {
@@ -57,6 +66,7 @@ impl World {
             portals,
             entered,
             leaving,
+            exits,
         }
     }
 
@@ -157,5 +167,26 @@ impl World {
         let first = self.leaving.begins[n as usize] as usize;
         let end = self.leaving.begins[n as usize + 1] as usize;
         &self.leaving.places[first..end]
+    }
+
+    /// The portals that leave the leaf of a number, ascending, as exits.
+    pub fn exits(&self, n: u64) -> &[Exit]
+        requires { n < length (numbered_leaves self.now.tree) }
+        ensures leaving { AreLeaving self.now.portals n (map (λ exit. exit.portal) result.now) }
+        ensures each { All (IsExitOf self.now.portals) result.now }
+        ensures within { All (λ exit. exit.to < length (numbered_leaves self.now.tree)) result.now }
+    {
+        let first = self.leaving.begins[n as usize] as usize;
+        let end = self.leaving.begins[n as usize + 1] as usize;
+        &self.exits[first..end]
+    }
+
+    /// The pane of an exit's portal, with its extent.
+    pub fn measured_pane<'a>(&'a self, exit: &'a Exit) -> MeasuredPane<'a>
+        requires { IsExitOf self.now.portals exit.now }
+        ensures { (portal : PortalRecord) × (slice_get self.now.portals exit.now.portal ≡ Some portal) × (result.winding ≡ portal.winding) × (result.into ≡ portal.into) }
+    {
+        let portal = &self.portals[exit.portal as usize];
+        MeasuredPane::of(&portal.pane, &exit.extent)
     }
 }
