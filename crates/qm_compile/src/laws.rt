@@ -56,7 +56,7 @@ pub fn run_surely<R: Threads + Sync, G: Gate + Sync>(
     run(rt, alloc, words, shelf, out, gate)
 }
 
-/// What a successful `compile` means for the tree file that is read in OUT, if the shelf tells what it holds.
+/// What a successful `compile` means for the tree file in OUT, if the shelf tells what it holds.
 pub fn headline()
     ensures { (words : List (List ℕ)) (before after : Surroundings) (options : SeenOptions) (listed : Bool) (files : FileNames) →
         AreWordsOf (of_map (Compile options listed) files) words → IsTrue before.shelf.tells → Answers words before after Done →

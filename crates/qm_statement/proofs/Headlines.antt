@@ -52,10 +52,9 @@ module _ (before after : ShelfState) (tells : IsTrue before.tells) (options : Op
   of_output map output means held done (inl tight) = record {
     map = map;
     means = means;
-    bytes = output.file;
-    held = held;
     file = tight.file;
-    read = tight.is_file.read_again;
+    valid = tight.is_file.valid;
+    held = subst (HoldsExactly after files.out_name) tight.is_file.exactly held;
     tells = tells_of_map map options tight.file tight.world tight.summary tight.is_compiled;
   }
   of_output map output means held done (inr leaks) = absurd (let same : Leak ≡ Done = sym leaks.is_status ∙ done in cc)

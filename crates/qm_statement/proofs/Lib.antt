@@ -3,7 +3,6 @@ pub mod Headlines
 pub mod KeptFiles
 pub mod LedLines
 pub mod OwnFiles
-pub mod ReadAgain
 pub mod SectionsOfKinds
 pub mod TornFiles
 pub mod Unfinished

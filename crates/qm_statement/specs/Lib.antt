@@ -7,6 +7,7 @@ pub mod Complete
 pub mod DemoComesOf
 pub mod FaultText
 pub mod Headline
+pub mod HoldsTree
 pub mod InspectComesOf
 pub mod KeptFile
 pub mod Marked
@@ -23,7 +24,6 @@ pub mod Texts
 pub mod TornFiles
 pub mod TreeBytes
 pub mod TreeFaultText
-pub mod TreeMeans
 pub mod TreeOfMap
 pub mod Unfinished
 pub mod Untouched
