@@ -28,8 +28,8 @@ ghost use Rattle.qm_statement.specs.CompiledMap.{IsCompiledWithoutLeak, IsCompil
 ghost use Rattle.qm_statement.specs.Complete.{MayEndWhereNoneMet};
 ghost use Rattle.qm_statement.specs.Headline.{IsHeadline};
 ghost use Rattle.qm_statement.specs.KeptFile.{KeepsWhatItReads};
+ghost use Rattle.qm_statement.specs.MapSpans.{SpansTellContents, HullSpansTellObstacles};
 ghost use Rattle.qm_statement.specs.Run.{Answers};
-ghost use Rattle.qm_traced_files.specs.MapSpans.{SpansTellContents, HullSpansTellObstacles};
 
 use crate::program::run;
 use qm_crew::Gate;

@@ -1,5 +1,4 @@
 pub mod Completeness
-pub mod Headlines
 pub mod KeptFiles
 pub mod LedLines
 pub mod OwnFiles

@@ -22,6 +22,7 @@ use Rattle.qm_commands.specs.declared.options.Options.{Options}
 use Rattle.qm_commands.specs.FileNames.{FileNames}
 use Rattle.qm_statement.specs.AskedSections.{AreSectionsAsked}
 use Rattle.qm_statement.specs.CompiledForm.{HasCompiledForm}
+use Rattle.qm_statement.specs.MapSpans.{SpansTellContents, HullSpansTellObstacles}
 use Rattle.qm_statement.specs.Origins.{AreOriginsOf}
 use Rattle.qm_statement.specs.Rows.{IsWorldOf, AreRowsOverCoarse, IsLedByOpenChain}
 use Rattle.qm_statement.specs.TreeOfMap.{IsTreeOfMap}
@@ -41,8 +42,9 @@ AreBounded false world rows = (m n : ℕ) → IsIn (slice_index_or rows m []) n 
 -- What holds of the file. Each point inside the cube that is on no node plane is led to the contents that the map's brushes
 -- define there, or to a filled leaf. No entity of the map leaks. Exactly those leaves are filled that the outside reaches, if some
 -- entity stands in the open, and else none. Each line of sight has its last leaf in the row of its first, and its first in the row
--- of its last. No row has a leaf that portals do not lead to. The sections are those that the options ask for, and the form is the
--- one in which maps are compiled.
+-- of its last. No row has a leaf that portals do not lead to. The spans of each segment through the tree tell the contents that the
+-- brushes define; and where the box of a hull, set at a point of a segment, meets an obstacle, some span through that hull is solid.
+-- The sections are those that the options ask for, and the form is the one in which maps are compiled.
 pub record TellsOfMap (map : MapFile) (options : Options) (file : TreeFile) : Type 0 where
   pub contents : (x : Point) → IsInCube x → IsOffNodePlanes file.tree.planes file.tree.shape x → HasRightContents map x (leaf_record_at file.tree.planes file.tree.shape x)
   pub unfilled : Tree
@@ -57,6 +59,8 @@ pub record TellsOfMap (map : MapFile) (options : Options) (file : TreeFile) : Ty
   pub world : World
   pub is_world : IsWorldOf file.tree world
   pub bounded : AreBounded options.fast world rows
+  pub spans : SpansTellContents map file.tree
+  pub hull_spans : HullSpansTellObstacles map file
   pub sections : AreSectionsAsked map file.tree options file.sections
   pub form : HasCompiledForm file
 

@@ -10,6 +10,7 @@ pub mod Headline
 pub mod HoldsTree
 pub mod InspectComesOf
 pub mod KeptFile
+pub mod MapSpans
 pub mod Marked
 pub mod Origins
 pub mod Output
