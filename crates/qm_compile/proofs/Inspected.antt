@@ -10,22 +10,22 @@ use Rattle.qm_statement.specs.declared.status.Status.TheVariants.{QueryRefused}
 use Rattle.qm_statement.specs.RefusalText.{refusal_text}
 use Rattle.qm_answers.specs.declared.query_fault.QueryFault.{QueryFault}
 use Rattle.qm_answers.specs.AllAnswers.{IsFirstRefused}
+use Rattle.qm_statement.specs.HoldsTree.{HoldsTreeFile}
 use Rattle.qm_statement.specs.InspectComesOf.{InspectComesOf, unread, no_tree_file, answered}
 use Rattle.qm_statement.specs.InspectComesOf as comes
-use Rattle.qm_statement.specs.TreeMeans.{TreeMeans}
 use Rattle.qm_statement.specs.Untouched.{IsUntouched}
 use Rattle.qm_compile.specs.declared.report.Report.{Report}
 use Rattle.qm_compile.specs.declared.tree_reading.NoTree.{NoTree}
 use Rattle.qm_compile.specs.inner.CarriedOut.{IsCarriedOut}
 use Rattle.qm_compile.specs.inner.FileReport.{IsFileReport, refusal, all_lines}
 use Rattle.qm_compile.specs.inner.Reported.{reported_status, reported_text}
-use Rattle.qm_compile.specs.inner.TreeRead.{IsFileIn, IsReportOf, IsTreeRead}
+use Rattle.qm_compile.specs.inner.TreeRead.{IsReportOf, IsTreeRead}
 use Rattle.qm_compile.proofs.CarriedOut.{carried_out_without_tree}
 
 module _ (before after : ShelfState) (tree_name : List ℕ) (queries : List Query) where
-  reported : IsUntouched before after → (file : TreeFile) → IsFileIn (TreeMeans before tree_name) file → (status : Status) (text : List ℕ) → IsFileReport file queries status text → InspectComesOf before after tree_name queries status text
-  reported untouched file is status text (refusal first) = comes.refused is.is_given first untouched
-  reported untouched file is status text (all_lines are) = answered is.is_given are untouched
+  reported : IsUntouched before after → (file : TreeFile) → HoldsTreeFile before tree_name file → (status : Status) (text : List ℕ) → IsFileReport file queries status text → InspectComesOf before after tree_name queries status text
+  reported untouched file is status text (refusal first) = comes.refused is first untouched
+  reported untouched file is status text (all_lines are) = answered is are untouched
 
   module _ {E : Type 0} where
     -- a tree file was read, and asked

@@ -1,6 +1,7 @@
 pub mod CarriedOut
 pub mod CutFiles
 pub mod FaultLines
+pub mod Headlines
 pub mod Inspected
 pub mod Orders
 pub mod Reported

@@ -11,8 +11,8 @@ use Rattle.qm_shelf.proofs.Counted.{no_fault_twice, write_fault_twice}
 use Rattle.qm_formats.specs.TreeFile.{TreeFile}
 use Rattle.qm_commands.specs.Order.{of_upgrade}
 use Rattle.qm_statement.specs.declared.status.Status.TheVariants.{Done}
+use Rattle.qm_statement.specs.HoldsTree.{HoldsTreeFile}
 use Rattle.qm_statement.specs.Texts.{upgrade_text}
-use Rattle.qm_statement.specs.TreeMeans.{TreeMeans}
 use Rattle.qm_statement.specs.Unfinished.{IsUnfinished}
 use Rattle.qm_statement.specs.Untouched.{IsUntouched}
 use Rattle.qm_statement.specs.UpgradeComesOf.{IsUpgradeOf, IsUpgradeDue, IsUpgradeCutShort, UpgradeComesOf, tree_fault, unwritten, upgrade_written, tree_unread}
@@ -24,13 +24,13 @@ use Rattle.qm_compile.specs.declared.tree_reading.NoTree.{NoTree}
 use Rattle.qm_compile.specs.inner.CarriedOut.{IsCarriedOut}
 use Rattle.qm_compile.specs.inner.Reported.{reported_status, reported_text}
 use Rattle.qm_compile.specs.inner.UpgradeEnds.{IsEnd}
-use Rattle.qm_compile.specs.inner.TreeRead.{IsFileIn, IsReportOf, IsTreeRead}
+use Rattle.qm_compile.specs.inner.TreeRead.{IsReportOf, IsTreeRead}
 use Rattle.qm_compile.proofs.CarriedOut.{carried_out, stopped, carried_out_without_tree}
 
 -- a file was read, these bytes were made of it, and writing them ended in one of the ways in which it can
-module _ (before between after : ShelfState) (tree_name out_name bytes : List ℕ) (file : TreeFile) (read : IsFileIn (TreeMeans before tree_name) file) (made : IsUpgradeOf file bytes) (tells_are : between.tells ≡ before.tells) (untouched : IsUntouched before between) (kept_then : IsKeptElsewhere between after out_name) where
+module _ (before between after : ShelfState) (tree_name out_name bytes : List ℕ) (file : TreeFile) (read : HoldsTreeFile before tree_name file) (made : IsUpgradeOf file bytes) (tells_are : between.tells ≡ before.tells) (untouched : IsUntouched before between) (kept_then : IsKeptElsewhere between after out_name) where
   abbrev due : IsUpgradeDue before tree_name bytes
-  due = record { file = file; end = read.end; is_meant = read.is_given; is_made = made }
+  due = record { file = file; is_held = read; is_made = made }
 
   whole : (IsTrue between.tells → HoldsExactly after out_name bytes) → MetNoFault between after → UpgradeComesOf before after tree_name out_name Done (upgrade_text file.version)
   whole holds none = upgrade_written due
@@ -46,7 +46,7 @@ module _ (before between after : ShelfState) (tree_name out_name bytes : List �
         carried_out before after (of_upgrade tree_name out_name) report (rw (status, text) (whole holds none)) answer is
     written_ends (Err Failed) holds part none means report status text answer is =
         carried_out before after (of_upgrade tree_name out_name) (OfFiles outcomes.WriteFault)
-        (unwritten read.is_given (write_fault_twice before between after Failed out_name untouched.no_fault means) (in_part part))
+        (unwritten read (write_fault_twice before between after Failed out_name untouched.no_fault means) (in_part part))
         answer is
     written_ends (Err Memory) holds part none means report status text answer is =
         stopped before after (of_upgrade tree_name out_name)

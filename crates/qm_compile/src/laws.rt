@@ -28,8 +28,8 @@ ghost use Rattle.qm_statement.specs.CompiledMap.{IsCompiledWithoutLeak, IsCompil
 ghost use Rattle.qm_statement.specs.Complete.{MayEndWhereNoneMet};
 ghost use Rattle.qm_statement.specs.Headline.{IsHeadline};
 ghost use Rattle.qm_statement.specs.KeptFile.{KeepsWhatItReads};
+ghost use Rattle.qm_statement.specs.MapSpans.{SpansTellContents, HullSpansTellObstacles};
 ghost use Rattle.qm_statement.specs.Run.{Answers};
-ghost use Rattle.qm_traced_files.specs.MapSpans.{SpansTellContents, HullSpansTellObstacles};
 
 use crate::program::run;
 use qm_crew::Gate;
@@ -56,7 +56,7 @@ pub fn run_surely<R: Threads + Sync, G: Gate + Sync>(
     run(rt, alloc, words, shelf, out, gate)
 }
 
-/// What a successful `compile` means for the tree file that is read in OUT, if the shelf tells what it holds.
+/// What a successful `compile` means for the tree file in OUT, if the shelf tells what it holds.
 pub fn headline()
     ensures { (words : List (List ℕ)) (before after : Surroundings) (options : SeenOptions) (listed : Bool) (files : FileNames) →
         AreWordsOf (of_map (Compile options listed) files) words → IsTrue before.shelf.tells → Answers words before after Done →

@@ -31,17 +31,17 @@ pub fn read_tree<H: Shelf>(
     ensures { IsTreeRead (shelf_state H.Shelf shelf.old) (shelf_state H.Shelf shelf.new) tree_name.now result }
 {
     match read_whole(alloc, shelf, tree_name, FILE_LIMIT) {
-        Ok(bytes) => read_bytes(alloc, bytes),
+        Ok(bytes) => read_bytes(alloc, &bytes),
         Err(ShelfFault::Failed) => Err(NoTree::Unread),
         Err(ShelfFault::Memory) => Err(NoTree::Memory),
     }
 }
 
-/// The tree file that bytes are. They are let go of.
-fn read_bytes(alloc: Global, bytes: Vec<u8>) -> Result<TreeFile, NoTree>
-    ensures { IsReadOfBytes bytes.items result }
+/// The tree file that bytes are.
+fn read_bytes(alloc: Global, bytes: &[u8]) -> Result<TreeFile, NoTree>
+    ensures { IsReadOfBytes bytes.now result }
 {
-    match decode(alloc, &bytes) {
+    match decode(alloc, bytes) {
         Ok(file) => Ok(file),
         Err(fault) => Err(no_tree(alloc, fault)),
     }

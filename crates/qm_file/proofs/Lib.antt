@@ -4,7 +4,3 @@ pub mod Faults
 pub mod Unpacking
 pub mod NumberedTest
 pub mod Answered
-pub mod SizedRecords
-pub mod RecordFaults
-pub mod TreeFaults
-pub mod FaultSamples

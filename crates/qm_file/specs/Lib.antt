@@ -1,4 +1,2 @@
 pub mod Answers
-pub mod FirstFault
-pub mod TreeFaults
 pub mod inner

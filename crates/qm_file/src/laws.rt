@@ -16,7 +16,7 @@ ghost use Rattle.qm_formats.specs.FileLayout.{are_numbered, file_layout, file_by
 ghost use Rattle.qm_formats.specs.TreeFile.{TreeFile, IsValidFile};
 ghost use Rattle.qm_formats.specs.Upgraded.{upgraded};
 ghost use Rattle.qm_formats.specs.FirstVersion.{first_version, first_version_bytes};
-ghost use Rattle.qm_file.specs.TreeFaults.{IsFaultOfFileBytes};
+ghost use Rattle.qm_formats.specs.TreeFaults.{IsFaultOfFileBytes};
 
 /// What is read in a file of either version stands there and can stand there, and the other way round.
 pub fn exact_layout()

@@ -76,7 +76,7 @@ record IsWidth (width : Width) : Type 0 where
   long : (n : ℕ) → length (to_le_bytes width n) ≡ byte_len width
   half : 2 ^ bits width ≡ 2 ^ hbits width + 2 ^ hbits width
 
-low_first_bytes : (i count n : ℕ) → are_bytes (bytes_low_first i count n) ≡ true
+pub low_first_bytes : (i count n : ℕ) → are_bytes (bytes_low_first i count n) ≡ true
 low_first_bytes i zero n = refl
 low_first_bytes zero (suc count) n = and_from (ltb (n % 256) 256) (are_bytes (bytes_low_first 1 count n)) (lt-ltb (n % 256) 256 (mod_below n 256 (omega arith))) (low_first_bytes 1 count n)
 low_first_bytes (suc i) (suc count) n =
@@ -190,7 +190,7 @@ byte_behind : (xs : List ℕ) (byte : ℕ) → get_or (xs ++ (byte ∷ [])) (len
 byte_behind [] byte = refl
 byte_behind (x ∷ xs) byte = byte_behind xs byte
 
-bytes_behind : (xs ys : List ℕ) → are_bytes xs ≡ true → are_bytes ys ≡ true → are_bytes (xs ++ ys) ≡ true
+pub bytes_behind : (xs ys : List ℕ) → are_bytes xs ≡ true → are_bytes ys ≡ true → are_bytes (xs ++ ys) ≡ true
 bytes_behind [] ys of_xs of_ys = of_ys
 bytes_behind (x ∷ xs) ys of_xs of_ys =
     let both = and_parts (ltb x 256) (are_bytes xs) of_xs in

@@ -23,5 +23,12 @@ pub mod CutFiles
 pub mod SectionBytes
 pub mod UpgradedFiles
 pub mod FirstVersions
+pub mod InBytes
+pub mod FileBytes
+pub mod SizedRecords
+pub mod RecordFaults
+pub mod TreeFaults
+pub mod FileFaults
 mod FileSamples
 mod CubeFileSamples
+mod FaultSamples

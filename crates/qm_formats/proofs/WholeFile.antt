@@ -40,6 +40,12 @@ unfolding read_file file_bytes
 read_file_again file content is =
     whole_again file_layout file_exact file_limit too_long trailing file content (valid_right content is.valid) is.bytes_are is.fits
 
+-- bytes are those of one file at most
+pub one_file_of : (bytes : List ℕ) (file other : TreeFile) → IsFileOf bytes file → IsFileOf bytes other → file ≡ other
+one_file_of bytes file other is other_is =
+    let e = sym (read_file_again bytes file is) ∙ read_file_again bytes other other_is in
+    cc
+
 -- a file is read, where what stands at its start is read and ends where it does
 pub read_file_ends : (file : List ℕ) (content : TreeFile) (next : ℕ) → AreBytes file → file_layout.read file 0 ≡ got content next → length file ≤ file_limit → length file ≤ next → read_file file ≡ got content (length file)
 unfolding read_file

@@ -8,3 +8,5 @@ pub mod TreeFile
 pub mod Upgraded
 pub mod FileLayout
 pub mod FirstVersion
+pub mod FirstFault
+pub mod TreeFaults

@@ -1,28 +1,19 @@
 -- The text of a listing that can stand in one is made of bytes.
-use Rattle.std.proofs.Common.{◌≡◌, ◌<◌, ℕ, zero, suc, ◌+◌, Bool, true, false, eqb, ltb, leb, ◌||◌, List, [], ◌∷◌, ◌++◌, length, codes, refl, sym, ap, ◌∙◌, arith}
+use Rattle.std.proofs.Common.{◌≡◌, ◌<◌, ℕ, Bool, true, false, eqb, ltb, leb, ◌||◌, List, [], ◌∷◌, ◌++◌, length, codes, refl, sym, ap, ◌∙◌, arith}
 use Rattle.std.specs.Prelude.{IsTrue}
 use Rattle.std.specs.Char.{is_ascii_digit}
 use Rattle.std.specs.List.{list_all}
 use Rattle.std.proofs.lemmas.Bool.{and_parts, and_from, eqb-true, lt-ltb, leb-true}
 use Rattle.qm_formats.specs.Fields.{AreBytes, are_bytes}
-use Rattle.qm_formats.specs.Layout.{Layout, tested, part, last_part, bytes_of_each, right_each, many}
-use Rattle.qm_formats.proofs.ExactFields.{bytes-are}
+use Rattle.qm_formats.specs.Layout.{Layout, tested}
+use Rattle.qm_formats.proofs.ExactFields.{bytes-are, bytes_behind}
+use Rattle.qm_formats.proofs.InBytes.{IsInBytes, front_bytes, tested_in_bytes, part_in_bytes, last_part_in_bytes, many_in_bytes}
 use Rattle.qm_listing.specs.declared.listing.Listing.{Listing}
 use Rattle.qm_listing.specs.Numerals.{is_number_byte, Spelling, numeral, literal, before, behind}
 use Rattle.qm_listing.specs.Numbers.{counts, coordinates}
 use Rattle.qm_listing.specs.Grammar.{number, shape, header, due, number_before, first_line_layout, count_line_layout, points_layout, leaf0_layout, leaf1_layout, coordinate_layout, corner_layout, portal_layout, listing_layout, listing_text, can_stand}
 use Rattle.qm_listing.proofs.ExactNumerals.{IsSpelling}
 use Rattle.qm_listing.proofs.ExactNumbers.{counts_spelling, coordinates_spelling}
-
--- what is right is written in bytes
-record IsInBytes {F X : Type 0} (layout : Layout F X) : Type 0 where
-  are : (x : X) → layout.right x ≡ true → are_bytes (layout.bytes_of x) ≡ true
-
-bytes_behind : (xs ys : List ℕ) → are_bytes xs ≡ true → are_bytes ys ≡ true → are_bytes (xs ++ ys) ≡ true
-bytes_behind [] ys of_xs of_ys = of_ys
-bytes_behind (x ∷ xs) ys of_xs of_ys =
-    let both = and_parts (ltb x 256) (are_bytes xs) of_xs in
-    and_from (ltb x 256) (are_bytes (xs ++ ys)) both.0 (bytes_behind xs ys both.1 of_ys)
 
 -- ---- numerals
 
@@ -57,9 +48,6 @@ module _ {F : Type 0} where
   unfolding numeral
   numeral_in_bytes fault spelling is = record { are = λ x right. number_bytes (spelling.numeral_of x) (is.bytes x right) }
 
-  tested_in_bytes : {X : Type 0} (test : X → Bool) (fault : F) (place : X → ℕ → ℕ) (inner : Layout F X) → IsInBytes inner → IsInBytes (tested test fault place inner)
-  tested_in_bytes test fault place inner its = record { are = λ x right. its.are x (and_parts (inner.right x) (test x) right).0 }
-
   before_in_bytes : {X : Type 0} (first : Layout F X) (last : Layout F (Unit {0})) → IsInBytes first → IsInBytes last → IsInBytes (before first last)
   before_in_bytes first last of_first of_last = record {
     are = λ x right.
@@ -73,28 +61,6 @@ module _ {F : Type 0} where
         let both = and_parts (first.right tt) (last.right x) right in
         bytes_behind (first.bytes_of tt) (last.bytes_of x) (of_first.are tt both.0) (of_last.are x both.1);
   }
-
-  part_in_bytes : {X Y : Type 0} (of : Y → X) (first : Layout F X) (rest : X → Layout F Y) → IsInBytes first → ((x : X) → IsInBytes (rest x)) → IsInBytes (part of first rest)
-  part_in_bytes of first rest of_first of_rest = record {
-    are = λ y right.
-        let both = and_parts (first.right (of y)) ((rest (of y)).right y) right in
-        bytes_behind (first.bytes_of (of y)) ((rest (of y)).bytes_of y) (of_first.are (of y) both.0) ((of_rest (of y)).are y both.1);
-  }
-
-  last_in_bytes : {X Y : Type 0} (of : Y → X) (last : Layout F X) (make : X → Y) → IsInBytes last → IsInBytes (last_part of last make)
-  last_in_bytes of last make its = record { are = λ y right. its.are (of y) right }
-
-  module _ {X : Type 0} (layout : Layout F X) (its : IsInBytes layout) where
-    each_in_bytes : (k count : ℕ) (xs : List X) → right_each (λ _. layout) k count xs ≡ true → are_bytes (bytes_of_each (λ _. layout) k xs) ≡ true
-    each_in_bytes k zero [] right = refl
-    each_in_bytes k zero (x ∷ xs) right = absurd cc
-    each_in_bytes k (suc count) [] right = absurd cc
-    each_in_bytes k (suc count) (x ∷ xs) right =
-        let both = and_parts (layout.right x) (right_each (λ _. layout) (k + 1) count xs) right in
-        bytes_behind (layout.bytes_of x) (bytes_of_each (λ _. layout) (k + 1) xs) (its.are x both.0) (each_in_bytes (k + 1) count xs both.1)
-
-    many_in_bytes : (count : ℕ) → IsInBytes (many layout count)
-    many_in_bytes count = record { are = λ xs right. each_in_bytes 0 count xs right }
 
 -- ---- the listing
 
@@ -137,7 +103,7 @@ portal_in_bytes leaves =
     part_in_bytes (λ found. length found.corners) _ _ points_in_bytes (λ points.
     part_in_bytes (λ found. found.leaf0) _ _ (leaf0_in_bytes leaves) (λ leaf0.
     part_in_bytes (λ found. found.leaf1) _ _ (leaf1_in_bytes leaves leaf0) (λ leaf1.
-    last_in_bytes (λ found. found.corners) _ _ (before_in_bytes _ _ (many_in_bytes corner_layout corner_in_bytes points) (due_in_bytes 10 (omega arith))))))
+    last_part_in_bytes (λ found. found.corners) _ _ (before_in_bytes _ _ (many_in_bytes corner_layout corner_in_bytes points) (due_in_bytes 10 (omega arith))))))
 
 listing_in_bytes : IsInBytes listing_layout
 unfolding listing_layout
@@ -145,13 +111,7 @@ listing_in_bytes =
     part_in_bytes (λ _. tt) first_line_layout _ first_line_in_bytes (λ line.
     part_in_bytes (λ found. found.leaves) _ _ count_line_in_bytes (λ leaves.
     part_in_bytes (λ found. length found.portals) _ _ count_line_in_bytes (λ count.
-    last_in_bytes (λ found. found.portals) _ _ (many_in_bytes (portal_layout leaves) (portal_in_bytes leaves) count))))
-
-front_bytes : (front behind : List ℕ) → are_bytes (front ++ behind) ≡ true → are_bytes front ≡ true
-front_bytes [] behind are = refl
-front_bytes (byte ∷ front) behind are =
-    let both = and_parts (ltb byte 256) (are_bytes (front ++ behind)) are in
-    and_from (ltb byte 256) (are_bytes front) both.0 (front_bytes front behind both.1)
+    last_part_in_bytes (λ found. found.portals) _ _ (many_in_bytes (portal_layout leaves) (portal_in_bytes leaves) count))))
 
 -- the first bytes of the text of a listing
 pub first_bytes_are : (listing : Listing) (front behind : List ℕ) → IsTrue (can_stand listing) → listing_text listing ≡ front ++ behind → AreBytes front

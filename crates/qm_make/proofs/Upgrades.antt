@@ -6,9 +6,7 @@ use Rattle.qm_formats.specs.Upgraded.{upgraded}
 use Rattle.qm_formats.proofs.UpgradedFiles.{upgraded_valid}
 use Rattle.qm_answers.proofs.UpgradedAnswers.{upgraded_answers}
 use Rattle.qm_statement.specs.UpgradeComesOf.{IsUpgradeOf}
-use Rattle.qm_statement.proofs.ReadAgain.{bytes_of_valid}
 
 pub upgrade_of : (file : TreeFile) (bytes : List ℕ) → IsValidFile file → bytes ≡ file_bytes (upgraded file) → IsUpgradeOf file bytes
 upgrade_of file bytes valid is =
-    let its_valid = (upgraded_valid file valid).0 in
-    record { is_valid = its_valid; is_file = bytes_of_valid (upgraded file) bytes its_valid is; same_answers = upgraded_answers file }
+    record { is_file = record { valid = (upgraded_valid file valid).0; exactly = is }; same_answers = upgraded_answers file }

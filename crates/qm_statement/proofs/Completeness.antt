@@ -1,5 +1,5 @@
 -- How a command ends that meets no fault of the surroundings.
-use Rattle.std.proofs.Common.{◌≡◌, ℕ, List, Ok, Err, Result, refl, sym, ◌∙◌, ap, subst, inl, inr, arith}
+use Rattle.std.proofs.Common.{◌≡◌, ℕ, List, Ok, Err, Result, refl, sym, ◌∙◌, subst, inl, inr, arith}
 use Rattle.std.specs.Prelude.{IsTrue}
 use Rattle.qm_surroundings.specs.Counts.{Rose}
 use Rattle.qm_surroundings.specs.Surroundings.{Surroundings}
@@ -7,10 +7,12 @@ use Rattle.qm_surroundings.specs.ShelfState.{text_under}
 use Rattle.qm_mapfile.specs.declared.entity.MapFile.{MapFile}
 use Rattle.qm_grammar.specs.declared.fault.MapFault.{MapFault}
 use Rattle.qm_grammar.specs.Meaning.{IsMapText}
-use Rattle.qm_formats.specs.FileLayout.{read_file}
+use Rattle.qm_formats.specs.FileLayout.{IsFileOf}
 use Rattle.qm_formats.specs.FileParts.{FileFaultKind}
-use Rattle.qm_formats.specs.Layout.{Decoded, got, bad}
+use Rattle.qm_formats.specs.TreeFaults.{IsFaultOfFileBytes}
 use Rattle.qm_formats.specs.TreeFile.{TreeFile}
+use Rattle.qm_formats.proofs.FileFaults.{no_fault_of_file}
+use Rattle.qm_formats.proofs.WholeFile.{one_file_of}
 use Rattle.qm_answers.specs.AllAnswers.{AreAnswered, IsFirstRefused}
 use Rattle.qm_answers.specs.declared.query_fault.QueryFault.{QueryFault}
 use Rattle.qm_answers.proofs.Told.{not_both}
@@ -23,13 +25,13 @@ use Rattle.qm_commands.specs.Words.{AreWordsOf}
 use Rattle.qm_statement.specs.declared.status.Status.{Status}
 use Rattle.qm_statement.specs.declared.status.Status.TheVariants.{Done, Usage, Leak, MapFault as TextFault, ReadFault, WriteFault, Memory, TreeFault, QueryRefused}
 use Rattle.qm_statement.specs.ComesOf.{ComesOf, read_fault, map_fault, write_fault, listing_fault, written}
-use Rattle.qm_statement.specs.Complete.{MetNone, MayEndWhereNoneMet, NoLeakStops, HoldsTree, NothingStops, EndsDoneOrShortOfMemory, IsComplete}
+use Rattle.qm_statement.specs.Complete.{MetNone, MayEndWhereNoneMet, NoLeakStops, NothingStops, EndsDoneOrShortOfMemory, IsComplete}
 use Rattle.qm_statement.specs.DemoComesOf.{DemoComesOf, summed_up}
+use Rattle.qm_statement.specs.HoldsTree.{HoldsTreeFile, HoldsTreeFault}
 use Rattle.qm_statement.specs.InspectComesOf.{InspectComesOf, unread, no_tree_file, refused, answered}
 use Rattle.qm_statement.specs.Output.{Output, IsOutputOf}
 use Rattle.qm_statement.specs.Run.{OrderComesOf, Due, usage, command, Answers}
 use Rattle.qm_statement.specs.TextMeans.{TextMeans}
-use Rattle.qm_statement.specs.TreeMeans.{TreeMeans}
 use Rattle.qm_statement.specs.UpgradeComesOf.{UpgradeComesOf, tree_unread, tree_fault, unwritten, upgrade_written}
 
 -- ---- what a command makes of a map is done, or leaks
@@ -101,24 +103,22 @@ module _ (before after : Surroundings) (tells : IsTrue before.shelf.tells) where
         subst EndsDoneOrShortOfMemory w.is_status
         (product_done its due.map w.output (subst (λ (m : MapFile). NoLeakStops its m) one tight) due.is_made)
 
-  module _ (tree_name : List ℕ) (file : TreeFile) (holds : HoldsTree before.shelf tree_name file) where
-    -- the bytes are this tree file and nothing else
-    one_tree : (meaning : Decoded FileFaultKind TreeFile) → TreeMeans before.shelf tree_name meaning → got file holds.end ≡ meaning
-    one_tree meaning means = sym holds.is_read ∙ ap read_file (sym (means.is_held tells)) ∙ means.means
+  module _ (tree_name : List ℕ) (file : TreeFile) (holds : HoldsTreeFile before.shelf tree_name file) where
+    -- the bytes are those of this tree file, and have no fault
+    one_tree : (other : TreeFile) → HoldsTreeFile before.shelf tree_name other → file ≡ other
+    one_tree other means = one_file_of holds.bytes file other holds.is_file (subst (λ (bytes : List ℕ). IsFileOf bytes other) (means.is_held tells ∙ sym (holds.is_held tells)) means.is_file)
 
-    no_fault_of_tree : (kind : FileFaultKind) (place : ℕ) → TreeMeans before.shelf tree_name (bad kind place) → ⊥
-    no_fault_of_tree kind place means = let same : got file holds.end ≡ bad kind place = one_tree (bad kind place) means in absurd cc
+    no_fault_of_tree : (kind : FileFaultKind) (place : ℕ) → HoldsTreeFault before.shelf tree_name kind place → ⊥
+    no_fault_of_tree kind place means = no_fault_of_file holds.bytes file kind place holds.is_file (subst (λ (bytes : List ℕ). IsFaultOfFileBytes bytes kind place) (means.is_held tells ∙ sym (holds.is_held tells)) means.is_fault)
 
-    no_refusal : (queries : List Query) (lines : List ℕ) → AreAnswered file queries lines → (other : TreeFile) (end number : ℕ) (fault : QueryFault) → TreeMeans before.shelf tree_name (got other end) → IsFirstRefused other 1 queries number fault → ⊥
-    no_refusal queries lines are other end number fault means first =
-        let same : got file holds.end ≡ got other end = one_tree (got other end) means in
-        let one : file ≡ other = cc in
-        not_both other queries lines 1 number fault (subst (λ (f : TreeFile). AreAnswered f queries lines) one are) first
+    no_refusal : (queries : List Query) (lines : List ℕ) → AreAnswered file queries lines → (other : TreeFile) (number : ℕ) (fault : QueryFault) → HoldsTreeFile before.shelf tree_name other → IsFirstRefused other 1 queries number fault → ⊥
+    no_refusal queries lines are other number fault means first =
+        not_both other queries lines 1 number fault (subst (λ (f : TreeFile). AreAnswered f queries lines) (one_tree other means) are) first
 
     tree_done : (queries : List Query) (lines : List ℕ) → AreAnswered file queries lines → MetNone before after (of_tree tree_name queries) → (status : Status) (text : List ℕ) → InspectComesOf before.shelf after.shelf tree_name queries status text → EndsDoneOrShortOfMemory status
     tree_done queries lines are met status text (unread failed kept) = absurd (met.reading tree_name refl failed.rose)
     tree_done queries lines are met status text (no_tree_file {kind = kind} {place = place} means untouched) = absurd (no_fault_of_tree kind place means)
-    tree_done queries lines are met status text (refused {file = other} {end = end} {number = number} {fault = fault} means first untouched) = absurd (no_refusal queries lines are other end number fault means first)
+    tree_done queries lines are met status text (refused {file = other} {number = number} {fault = fault} means first untouched) = absurd (no_refusal queries lines are other number fault means first)
     tree_done queries lines are met status text (answered means its untouched) = tt
 
     upgrade_done : (out_name : List ℕ) → MetNone before after (of_upgrade tree_name out_name) → (status : Status) (text : List ℕ) → UpgradeComesOf before.shelf after.shelf tree_name out_name status text → EndsDoneOrShortOfMemory status

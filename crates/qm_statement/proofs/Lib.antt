@@ -1,9 +1,7 @@
 pub mod Completeness
-pub mod Headlines
 pub mod KeptFiles
 pub mod LedLines
 pub mod OwnFiles
-pub mod ReadAgain
 pub mod SectionsOfKinds
 pub mod TornFiles
 pub mod Unfinished

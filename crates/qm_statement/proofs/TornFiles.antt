@@ -1,25 +1,19 @@
 -- However a command ends, no file that it left torn is taken for whole.
-use Rattle.std.proofs.Common.{◌≡◌, ◌<◌, ◌⊎◌, ◌^◌, ◌++◌, ℕ, Bool, true, false, cond, ltb, List, length, take, drop, Option, Some, None, refl, sym, ◌∙◌, ap, subst, inl, inr, arith}
-use Rattle.std.specs.Prelude.{IsTrue, count_by}
-use Rattle.std.proofs.lemmas.Bool.{cases_lt, lt-ltb, le-ltb}
+use Rattle.std.proofs.Common.{◌≡◌, ◌<◌, ◌⊎◌, ◌^◌, ◌++◌, ℕ, Bool, true, false, List, length, take, drop, Option, Some, None, refl, sym, ◌∙◌, ap, subst, inl, inr, arith}
+use Rattle.std.specs.Prelude.{IsTrue}
+use Rattle.std.proofs.lemmas.Bool.{cases_lt}
 use Rattle.std.proofs.lemmas.List.{length-drop, take-append-drop, take_all}
-use Rattle.std.proofs.lemmas.List.Sums.{count_by-le-length}
 use Rattle.qm_surroundings.specs.Surroundings.{Surroundings}
 use Rattle.qm_surroundings.specs.ShelfState.{ShelfState}
 use Rattle.qm_surroundings.specs.ShelfChanges.{IsKept}
 use Rattle.qm_surroundings.specs.WholeFiles.{HoldsTheSame, HoldsPrefix}
-use Rattle.qm_partition.specs.Tree.{Tree}
-use Rattle.qm_partition.specs.Counting.{leaves_of}
-use Rattle.qm_contacts.specs.NumberedLeaves.{is_numbered, numbered_leaves}
 use Rattle.qm_contacts.specs.OwnPortals.{HasOwnPortals}
 use Rattle.qm_contacts.specs.World.{World}
-use Rattle.qm_formats.specs.FileLayout.{file_bytes, file_limit, read_file}
-use Rattle.qm_formats.specs.FileParts.{short, too_long}
-use Rattle.qm_formats.specs.Layout.{got, bad}
+use Rattle.qm_formats.specs.FileLayout.{file_bytes}
 use Rattle.qm_formats.specs.TreeFile.{TreeFile, IsValidFile}
-use Rattle.qm_formats.proofs.CutFiles.{prefix_cut_off}
+use Rattle.qm_formats.proofs.FileFaults.{cut_file_fault}
 use Rattle.qm_listing.specs.declared.listing.Listing.{Listing}
-use Rattle.qm_listing.specs.Grammar.{listing_text, read_listing}
+use Rattle.qm_listing.specs.Grammar.{listing_text}
 use Rattle.qm_listing.specs.WorldListing.{IsListingOf}
 use Rattle.qm_listing.proofs.CutListings.{listing_cut_off}
 use Rattle.qm_listing.proofs.WorldListings.{world_listing_stands}
@@ -34,7 +28,6 @@ use Rattle.qm_statement.specs.declared.status.Status.{Status}
 use Rattle.qm_statement.specs.declared.status.Status.TheVariants.{Done, Usage, Leak, MapFault as TextFault, ReadFault, WriteFault, Memory, TreeFault, QueryRefused}
 use Rattle.qm_statement.specs.ComesOf.{ComesOf, IsDueInOut, IsOutUnfinished, IsListingUnfinished, IsWritten, IsCutShort, read_fault, map_fault, write_fault, listing_fault, written}
 use Rattle.qm_statement.specs.Output.{Output, IsListed, IsOutputOf}
-use Rattle.qm_statement.specs.Rows.{IsWorldOf}
 use Rattle.qm_statement.specs.Run.{OrderComesOf, IsStopped, Due, usage, command, IsPartlyReported, EndsShortOfMemoryBefore, Answers}
 use Rattle.qm_statement.specs.TornFiles.{IsTreeRefused, IsListingRefused, IsNotTorn, IsDueInListing, AreNotTorn, LeavesNoneTorn, NoneIsTorn}
 use Rattle.qm_statement.specs.Unfinished.{HoldsPart}
@@ -51,16 +44,9 @@ parted bytes count = sym (take-append-drop count bytes)
 some_behind : (bytes : List ℕ) (count : ℕ) → count < length bytes → 0 < length (drop count bytes)
 some_behind bytes count less = omega (arith, less, length-drop count bytes)
 
-by_length : (part : List ℕ) → read_file part ≡ cond (ltb file_limit (length part)) (bad too_long file_limit) (bad short (length part)) → (read_file part ≡ bad short (length part)) ⊎ (read_file part ≡ bad too_long file_limit)
-by_length part is =
-    elim (cases_lt file_limit (length part)) [
-      | inl long ↦ inr (is ∙ ap (λ (b : Bool). cond b (bad too_long file_limit) (bad short (length part))) (lt-ltb file_limit (length part) long))
-      | inr fits ↦ inl (is ∙ ap (λ (b : Bool). cond b (bad too_long file_limit) (bad short (length part))) (le-ltb file_limit (length part) fits))
-    ]
-
 tree_refused : (file : TreeFile) (bytes : List ℕ) (count : ℕ) → IsValidFile file → bytes ≡ file_bytes file → count < length bytes → IsTreeRefused bytes (take count bytes)
 tree_refused file bytes count valid is less =
-    by_length (take count bytes) (prefix_cut_off file (take count bytes) (drop count bytes) valid (sym is ∙ parted bytes count) (some_behind bytes count less))
+    cut_file_fault file (take count bytes) (drop count bytes) valid (sym is ∙ parted bytes count) (some_behind bytes count less)
 
 -- the listing of a world
 listing_refused : (world : World) (listing : Listing) (text : List ℕ) (count : ℕ) → HasOwnPortals world → IsListingOf world listing → text ≡ listing_text listing → count < length text → IsListingRefused text (take count text)
@@ -176,7 +162,7 @@ module _ (before after : ShelfState) (tree_name out_name : List ℕ) (tells : Is
   Left = IsNotTorn before after out_name (IsUpgradeDue before tree_name) IsTreeRefused
 
   upgrade_refuses : (bytes : List ℕ) (count : ℕ) → IsUpgradeDue before tree_name bytes → count < length bytes → IsTreeRefused bytes (take count bytes)
-  upgrade_refuses bytes count due less = tree_refused _ bytes count due.is_made.is_valid due.is_made.is_file.exactly less
+  upgrade_refuses bytes count due less = tree_refused _ bytes count due.is_made.is_file.valid due.is_made.is_file.exactly less
 
   upgrade_part : HoldsTheSame before after out_name ⊎ HoldsPart after out_name (IsUpgradeDue before tree_name) → Left
   upgrade_part part = part_left before after out_name (IsUpgradeDue before tree_name) IsTreeRefused upgrade_refuses part

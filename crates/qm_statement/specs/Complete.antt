@@ -6,8 +6,6 @@ use Rattle.qm_mapfile.specs.declared.entity.MapFile.{MapFile}
 use Rattle.qm_grammar.specs.Meaning.{IsMapText}
 use Rattle.qm_partition.specs.Tree.{Tree}
 use Rattle.qm_contacts.specs.Leak.{Origin}
-use Rattle.qm_formats.specs.FileLayout.{read_file}
-use Rattle.qm_formats.specs.Layout.{got}
 use Rattle.qm_formats.specs.TreeFile.{TreeFile}
 use Rattle.qm_answers.specs.AllAnswers.{AreAnswered}
 use Rattle.qm_commands.specs.declared.map_command.MapCommand.{MapCommand}
@@ -18,6 +16,7 @@ use Rattle.qm_statement.specs.declared.status.Status.{Status}
 use Rattle.qm_statement.specs.declared.status.Status.TheVariants.{Done, Leak, MapFault, Memory, TreeFault, QueryRefused}
 use Rattle.qm_statement.specs.Built.{IsBuilt}
 use Rattle.qm_statement.specs.CompiledMap.{NoneLeaks}
+use Rattle.qm_statement.specs.HoldsTree.{HoldsTreeFile}
 
 -- How a command ends that meets no fault of the surroundings.
 
@@ -60,20 +59,15 @@ abbrev pub NoLeakStops : MapCommand → MapFile → Type 0
 NoLeakStops (Compile options listed) map = (tree : Tree) (origins : List Origin) → IsBuilt map tree origins → NoneLeaks tree origins
 NoLeakStops Format map = Unit {0}
 
--- the bytes under a name are a tree file
-pub record HoldsTree (shelf : ShelfState) (name : List ℕ) (file : TreeFile) : Type 0 where
-  pub end : ℕ
-  pub is_read : read_file (text_under shelf name) ≡ got file end
-
 -- nothing that a command reads stops it: the text under MAP is a map, and no leak stops the command; or the bytes under TREE
 -- are a tree file, which, of `inspect`, answers every query
 abbrev pub NothingStops : ShelfState → Order → Type 0
 NothingStops shelf (of_map command files) =
     (map : MapFile) × IsMapText (text_under shelf files.map_name) map × NoLeakStops command map
 NothingStops shelf (of_tree tree_name queries) =
-    (file : TreeFile) × HoldsTree shelf tree_name file × (lines : List ℕ) × AreAnswered file queries lines
+    (file : TreeFile) × HoldsTreeFile shelf tree_name file × (lines : List ℕ) × AreAnswered file queries lines
 NothingStops shelf (of_rooms rooms number) = Unit {0}
-NothingStops shelf (of_upgrade tree_name out_name) = (file : TreeFile) × HoldsTree shelf tree_name file
+NothingStops shelf (of_upgrade tree_name out_name) = (file : TreeFile) × HoldsTreeFile shelf tree_name file
 
 -- an end of a command that meets no fault, and that nothing stops: it is done, or memory ran out
 abbrev pub EndsDoneOrShortOfMemory : Status → Type 0

@@ -1,4 +1,4 @@
-use Rattle.std.specs.Prelude.{◌≡◌, ◌≤◌, ◌⊎◌, ◌↔◌, ℕ, Bool, true, false, IsTrue, List, [], Some, length, Contains, slice_index_or}
+use Rattle.std.specs.Prelude.{◌≡◌, ◌⊎◌, ◌↔◌, ℕ, Bool, true, false, IsTrue, List, [], Some, Contains, slice_index_or}
 use Rattle.qm_lists.specs.WorkList.{IsIn}
 use Rattle.qm_space.specs.Point.{Point, IsInCube}
 use Rattle.qm_surroundings.specs.ShelfState.{ShelfState, text_under}
@@ -16,18 +16,18 @@ use Rattle.qm_contacts.specs.Filled.{IsToBeFilled}
 use Rattle.qm_contacts.specs.World.{World}
 use Rattle.qm_segments.specs.Segment.{Segment}
 use Rattle.qm_segments.specs.Ends.{IsLineOfSight, HoldsEnds}
-use Rattle.qm_formats.specs.Layout.{got}
-use Rattle.qm_formats.specs.FileLayout.{file_limit, read_file}
-use Rattle.qm_formats.specs.TreeFile.{TreeFile}
+use Rattle.qm_formats.specs.FileLayout.{file_bytes}
+use Rattle.qm_formats.specs.TreeFile.{TreeFile, IsValidFile}
 use Rattle.qm_commands.specs.declared.options.Options.{Options}
 use Rattle.qm_commands.specs.FileNames.{FileNames}
 use Rattle.qm_statement.specs.AskedSections.{AreSectionsAsked}
 use Rattle.qm_statement.specs.CompiledForm.{HasCompiledForm}
+use Rattle.qm_statement.specs.MapSpans.{SpansTellContents, HullSpansTellObstacles}
 use Rattle.qm_statement.specs.Origins.{AreOriginsOf}
 use Rattle.qm_statement.specs.Rows.{IsWorldOf, AreRowsOverCoarse, IsLedByOpenChain}
 use Rattle.qm_statement.specs.TreeOfMap.{IsTreeOfMap}
 
--- The theorem on one page: what a successful `compile` means for the tree file that is read in OUT.
+-- The theorem on one page: what a successful `compile` means for the tree file in OUT.
 
 -- what the leaf of a point is: it is filled, or has the contents that the map's brushes define at the point
 abbrev pub HasRightContents : MapFile → Point → Leaf → Type 0
@@ -42,8 +42,9 @@ AreBounded false world rows = (m n : ℕ) → IsIn (slice_index_or rows m []) n 
 -- What holds of the file. Each point inside the cube that is on no node plane is led to the contents that the map's brushes
 -- define there, or to a filled leaf. No entity of the map leaks. Exactly those leaves are filled that the outside reaches, if some
 -- entity stands in the open, and else none. Each line of sight has its last leaf in the row of its first, and its first in the row
--- of its last. No row has a leaf that portals do not lead to. The sections are those that the options ask for, and the form is the
--- one in which maps are compiled.
+-- of its last. No row has a leaf that portals do not lead to. The spans of each segment through the tree tell the contents that the
+-- brushes define; and where the box of a hull, set at a point of a segment, meets an obstacle, some span through that hull is solid.
+-- The sections are those that the options ask for, and the form is the one in which maps are compiled.
 pub record TellsOfMap (map : MapFile) (options : Options) (file : TreeFile) : Type 0 where
   pub contents : (x : Point) → IsInCube x → IsOffNodePlanes file.tree.planes file.tree.shape x → HasRightContents map x (leaf_record_at file.tree.planes file.tree.shape x)
   pub unfilled : Tree
@@ -58,16 +59,17 @@ pub record TellsOfMap (map : MapFile) (options : Options) (file : TreeFile) : Ty
   pub world : World
   pub is_world : IsWorldOf file.tree world
   pub bounded : AreBounded options.fast world rows
+  pub spans : SpansTellContents map file.tree
+  pub hull_spans : HullSpansTellObstacles map file
   pub sections : AreSectionsAsked map file.tree options file.sections
   pub form : HasCompiledForm file
 
--- The text under MAP means a map, and OUT has bytes in which, if they are at most 1 GiB, a tree file is read of which all of this
--- holds.
+-- The text under MAP means a map, and OUT has exactly the bytes of a valid tree file of which all of this holds. If they are at
+-- most 1 GiB, this is the file that is read in OUT.
 pub record IsHeadline (before after : ShelfState) (options : Options) (files : FileNames) : Type 0 where
   pub map : MapFile
   pub means : IsMapText (text_under before files.map_name) map
-  pub bytes : List ℕ
-  pub held : HoldsExactly after files.out_name bytes
   pub file : TreeFile
-  pub read : length bytes ≤ file_limit → read_file bytes ≡ got file (length bytes)
+  pub valid : IsValidFile file
+  pub held : HoldsExactly after files.out_name (file_bytes file)
   pub tells : TellsOfMap map options file

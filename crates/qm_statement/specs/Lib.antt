@@ -7,8 +7,10 @@ pub mod Complete
 pub mod DemoComesOf
 pub mod FaultText
 pub mod Headline
+pub mod HoldsTree
 pub mod InspectComesOf
 pub mod KeptFile
+pub mod MapSpans
 pub mod Marked
 pub mod Origins
 pub mod Output
@@ -23,7 +25,6 @@ pub mod Texts
 pub mod TornFiles
 pub mod TreeBytes
 pub mod TreeFaultText
-pub mod TreeMeans
 pub mod TreeOfMap
 pub mod Unfinished
 pub mod Untouched

@@ -1,9 +1,10 @@
 use Rattle.std.specs.Prelude.{◌≡◌, ◌⊎◌, ◌<◌, ◌^◌, ℕ, List, Some, length, IsTrue}
 use Rattle.qm_surroundings.specs.ShelfState.{ShelfState}
 use Rattle.qm_surroundings.specs.WholeFiles.{HoldsTheSame, HoldsExactly}
-use Rattle.qm_formats.specs.Layout.{got, bad}
+use Rattle.qm_formats.specs.Layout.{got}
 use Rattle.qm_formats.specs.FileParts.{short, too_long}
-use Rattle.qm_formats.specs.FileLayout.{file_limit, read_file}
+use Rattle.qm_formats.specs.FileLayout.{file_limit}
+use Rattle.qm_formats.specs.TreeFaults.{IsFaultOfFileBytes}
 use Rattle.qm_listing.specs.declared.listing.Listing.{Listing}
 use Rattle.qm_listing.specs.Grammar.{listing_text, read_listing}
 use Rattle.qm_commands.specs.declared.map_command.MapCommand.{MapCommand}
@@ -18,10 +19,10 @@ use Rattle.qm_statement.specs.UpgradeComesOf.{IsUpgradeDue}
 -- No tree file or listing is taken for whole that was cut off. Whatever the end of `compile` or `upgrade`, what it writes is as
 -- it was, is whole, or is refused by who reads it. Of `format` this says nothing, since the beginning of a text can be a map.
 
--- only some of the first bytes of a tree file are there: reading them gives that they are too short, where they end, or that they
--- are more than a file may have that is read
+-- only some of the first bytes of a tree file are there: their first fault is that they are too short, where they end, or that
+-- they are more than a file may have that is read
 abbrev pub IsTreeRefused : List ℕ → List ℕ → Type 0
-IsTreeRefused bytes part = (read_file part ≡ bad short (length part)) ⊎ (read_file part ≡ bad too_long file_limit)
+IsTreeRefused bytes part = IsFaultOfFileBytes part short (length part) ⊎ IsFaultOfFileBytes part too_long file_limit
 
 -- a listing whose counts its numbers of 18 digits can be: it has fewer than 10^18 leaves, and fewer than 2^62 bytes
 pub record HasShortNumbers (text : List ℕ) : Type 0 where

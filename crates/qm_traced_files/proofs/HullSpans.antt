@@ -30,7 +30,7 @@ use Rattle.qm_hull_trees.specs.Hull.{IsHull}
 use Rattle.qm_hull_trees.proofs.HullContents.{obstacles_are, has_obstacle}
 use Rattle.qm_spans.specs.Place.{point_on}
 use Rattle.qm_traced.proofs.SpanLaws.{meets_solid}
-use Rattle.qm_traced_files.specs.MapSpans.{SpansTellObstacles}
+use Rattle.qm_statement.specs.MapSpans.{SpansTellObstacles}
 
 module _ (map : MapFile) (box : Cuboid) (origin : HasOrigin box) (brushes : List Brush) (are : AreObstacles (world_brushes map) brushes) where
   -- ---- what a point is where the box is a point, the moved obstacles make of it

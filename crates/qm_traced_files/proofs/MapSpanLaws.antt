@@ -12,7 +12,7 @@ use Rattle.qm_commands.specs.declared.options.Options.{Options}
 use Rattle.qm_statement.specs.declared.summary.Summary.{Summary}
 use Rattle.qm_statement.specs.CompiledMap.{IsCompiledWithoutLeak, IsCompiledToLeak}
 use Rattle.qm_traced.proofs.SpanLaws.{contents_within}
-use Rattle.qm_traced_files.specs.MapSpans.{SpansTellContents, HullSpansTellObstacles}
+use Rattle.qm_statement.specs.MapSpans.{SpansTellContents, HullSpansTellObstacles}
 use Rattle.qm_traced_files.proofs.HullSpans.{hull_spans}
 use Rattle.qm_traced_files.proofs.KeptHulls.{kept_hull}
 

@@ -1,2 +1,2 @@
-//! What the spans of a segment say of a map, in the files that the map compiles to. This crate has only definitions and laws.
+//! What the spans of a segment say of a map, in the files that the map compiles to. This crate has only laws.
 #![tactic(auto)]

@@ -1,13 +1,13 @@
 use Rattle.std.specs.Prelude.{◌≡◌, ℕ, List, Result, Ok, Err, OnOk, string_bytes}
 use Rattle.qm_surroundings.specs.ShelfState.{ShelfState}
 use Rattle.qm_surroundings.specs.ShelfChanges.{IsKept, FailedToRead}
-use Rattle.qm_formats.specs.FileLayout.{read_file}
+use Rattle.qm_formats.specs.FileLayout.{IsFileOf}
 use Rattle.qm_formats.specs.FileParts.{FileFaultKind}
-use Rattle.qm_formats.specs.Layout.{Decoded, got, bad}
-use Rattle.qm_formats.specs.TreeFile.{TreeFile, IsValidFile}
+use Rattle.qm_formats.specs.TreeFaults.{IsFaultOfFileBytes}
+use Rattle.qm_formats.specs.TreeFile.{TreeFile}
 use Rattle.qm_file.specs.declared.file_fault.FileFault.{FileFault}
+use Rattle.qm_statement.specs.HoldsTree.{HoldsTreeFile, HoldsTreeFault}
 use Rattle.qm_statement.specs.TreeFaultText.{tree_fault_text}
-use Rattle.qm_statement.specs.TreeMeans.{TreeMeans}
 use Rattle.qm_statement.specs.Untouched.{IsUntouched}
 use Rattle.qm_compile.specs.declared.report.Report.{Report}
 use Rattle.qm_compile.specs.declared.report.Report.TheVariants as report
@@ -17,17 +17,11 @@ use Rattle.qm_compile.specs.inner.FaultLine.{IsTreeFaultLine}
 
 -- What is read under TREE.
 
--- the bytes mean this file, which is valid
-pub record IsFileIn (Gives : Decoded FileFaultKind TreeFile → Type 0) (file : TreeFile) : Type 0 where
-  pub end : ℕ
-  pub is_given : Gives (got file end)
-  pub is_valid : IsValidFile file
-
--- the bytes have this fault, of which the line is that
-pub record IsFaultIn (Gives : Decoded FileFaultKind TreeFile → Type 0) (line : List ℕ) : Type 0 where
+-- there is a fault, of which this is the line
+pub record IsLineOfFault (HasFault : FileFaultKind → ℕ → Type 0) (line : List ℕ) : Type 0 where
   pub kind : FileFaultKind
   pub place : ℕ
-  pub is_given : Gives (bad kind place)
+  pub has_fault : HasFault kind place
   pub is_line : line ≡ tree_fault_text kind place
 
 -- a fault of decoding is told by its line, unless memory ran out
@@ -38,15 +32,15 @@ IsNoTreeOf fault Memory = Unit {0}
 
 -- what is read in bytes
 abbrev pub IsReadOfBytes : List ℕ → Result TreeFile NoTree → Type 0
-IsReadOfBytes bytes (Ok file) = IsFileIn (λ meaning. read_file bytes ≡ meaning) file
-IsReadOfBytes bytes (Err (Fault line)) = IsFaultIn (λ meaning. read_file bytes ≡ meaning) (string_bytes line)
+IsReadOfBytes bytes (Ok file) = IsFileOf bytes file
+IsReadOfBytes bytes (Err (Fault line)) = IsLineOfFault (IsFaultOfFileBytes bytes) (string_bytes line)
 IsReadOfBytes bytes (Err Unread) = ⊥
 IsReadOfBytes bytes (Err Memory) = Unit {0}
 
 -- what is read under a name, and that the shelf holds what it held
 abbrev pub IsTreeRead : ShelfState → ShelfState → List ℕ → Result TreeFile NoTree → Type 0
-IsTreeRead before after tree_name (Ok file) = IsFileIn (TreeMeans before tree_name) file × IsUntouched before after
-IsTreeRead before after tree_name (Err (Fault line)) = IsFaultIn (TreeMeans before tree_name) (string_bytes line) × IsUntouched before after
+IsTreeRead before after tree_name (Ok file) = HoldsTreeFile before tree_name file × IsUntouched before after
+IsTreeRead before after tree_name (Err (Fault line)) = IsLineOfFault (HoldsTreeFault before tree_name) (string_bytes line) × IsUntouched before after
 IsTreeRead before after tree_name (Err Unread) = FailedToRead before after tree_name × IsKept before after
 IsTreeRead before after tree_name (Err Memory) = IsUntouched before after
 

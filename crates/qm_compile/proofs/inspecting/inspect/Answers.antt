@@ -2,7 +2,7 @@ use Rattle.qm_compile.proofs.Inspected.{asked, unasked}
 use Rattle.qm_compile.proofs.inspecting.inspect.Goals as goal
 
 pub ask-requires : goal.ask-requires
-ask-requires g c = c.in-Ok.ensures.0.is_valid
+ask-requires g c = c.in-Ok.ensures.0.is_file.valid
 
 pub returns-in-Ok : goal.returns-in-Ok
 returns-in-Ok g c = asked _ _ _ _ c.in-Ok.file c.in-Ok.ensures c.ask.result c.ask.ensures

@@ -1,6 +1,6 @@
 use Rattle.std.proofs.Common.{sym}
 use Rattle.qm_words.proofs.OneOrder.{one_order}
-use Rattle.qm_statement.proofs.Headlines.{headline}
+use Rattle.qm_compile.proofs.Headlines.{headline}
 use Rattle.qm_compile.proofs.laws.headline.Goals as goal
 
 pub returns : goal.returns

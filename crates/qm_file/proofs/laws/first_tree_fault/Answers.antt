@@ -1,4 +1,4 @@
-use Rattle.qm_file.proofs.TreeFaults.{tree_fault_in_words, tree_fault_again}
+use Rattle.qm_formats.proofs.TreeFaults.{tree_fault_in_words, tree_fault_again}
 use Rattle.qm_file.proofs.laws.first_tree_fault.Goals as goal
 
 pub returns : goal.returns

@@ -1,5 +1,4 @@
 use Rattle.std.proofs.Common.{◌∙◌}
-use Rattle.qm_statement.proofs.ReadAgain.{bytes_of_valid}
 use Rattle.qm_sections.proofs.hull_sections.section_of_file.Goals as goal
 
 pub returns : goal.returns
@@ -10,7 +9,7 @@ returns c = λ map hull.
         kind_is = made.kind;
         file = c.args.file.now;
         is_hull = hull;
-        bytes_are = bytes_of_valid c.args.file.now c.section_of_bytes.result.bytes hull.is_valid (made.bytes ∙ c.in_ok-bytes.ensures);
+        bytes_are = record { valid = hull.is_valid; exactly = made.bytes ∙ c.in_ok-bytes.ensures };
       };
       length_fits = rw made.bytes made.length_fits;
       are_bytes = rw made.bytes made.are_bytes;

@@ -10,7 +10,7 @@ use Rattle.qm_formats.specs.Exact.{IsRightAt}
 use Rattle.qm_formats.specs.FileParts.{FileFaultKind, short, magic, counts, plane_form, node_order, leaf_form, row_form, trailing, too_long, header_form, section_form, plane_layout, leaf_layout}
 use Rattle.qm_formats.specs.TreeFile.{Section, TreeFile}
 use Rattle.qm_formats.specs.FileLayout.{Header, magic_layout, count_layout, flag_layout, bound_layout, file_header_layout, own_row_layout, planes_layout, nodes_layout, rows_layout, tree_layout, section_head_layout, section_layout, file_limit, IsFileOf}
-use Rattle.qm_file.specs.FirstFault.{Faults, EndsWithin, IsNoneAt, IsCutOff, IsFaultOfRecord, IsFaultInTurn, IsFaultFromRecord, IsFaultOfEach}
+use Rattle.qm_formats.specs.FirstFault.{Faults, EndsWithin, IsNoneAt, IsCutOff, IsFaultOfRecord, IsFaultInTurn, IsFaultFromRecord, IsFaultOfEach}
 
 -- Which fault the bytes of a tree file have: the first in the order of its parts, and its place. Each record has its length and its fault.
 

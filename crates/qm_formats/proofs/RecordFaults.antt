@@ -8,8 +8,8 @@ use Rattle.qm_formats.specs.Exact.{IsRightAt, IsExact}
 use Rattle.qm_formats.specs.FileParts.{FileFaultKind, short}
 use Rattle.qm_formats.proofs.ShortFaults.{map_bad, then_bad, chosen_bad}
 use Rattle.qm_formats.proofs.Standing.{stands_nothing, stands_both, stands_first, stands_second}
-use Rattle.qm_file.specs.FirstFault.{Faults, EndsWithin, IsNoneAt, IsCutOff, cut_off, IsFaultOfRecord, record_cut_off, no_record, IsFaultInTurn, in_first, behind_first, IsFaultOfEach}
-use Rattle.qm_file.proofs.SizedRecords.{IsSized}
+use Rattle.qm_formats.specs.FirstFault.{Faults, EndsWithin, IsNoneAt, IsCutOff, cut_off, IsFaultOfRecord, record_cut_off, no_record, IsFaultInTurn, in_first, behind_first, IsFaultOfEach}
+use Rattle.qm_formats.proofs.SizedRecords.{IsSized}
 
 -- reading gives a fault exactly where there is one
 pub record GivesFaults {X : Type 0} (layout : Layout FileFaultKind X) (HasFault : Faults) : Type 0 where

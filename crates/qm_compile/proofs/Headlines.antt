@@ -21,12 +21,13 @@ use Rattle.qm_statement.specs.Headline.{AreBounded, TellsOfMap, IsHeadline}
 use Rattle.qm_statement.specs.Output.{Output, IsOutputOf}
 use Rattle.qm_statement.specs.Rows.{AreRowsAsAsked}
 use Rattle.qm_statement.specs.Run.{OrderComesOf, Due, command, Answers}
+use Rattle.qm_traced_files.proofs.MapSpanLaws.{spans_of_compiled, hull_spans_of_compiled}
 
 bounded : (fast : Bool) (workers : ℕ) (world : World) (rows : List (List Bool)) → AreRowsAsAsked fast workers world rows → AreBounded fast world rows
 bounded true workers world rows are = are
 bounded false workers world rows are = are.only_led
 
-pub tells_of_map : (map : MapFile) (options : Options) (file : TreeFile) (world : World) (summary : Summary) → IsCompiledWithoutLeak map options file world summary → TellsOfMap map options file
+tells_of_map : (map : MapFile) (options : Options) (file : TreeFile) (world : World) (summary : Summary) → IsCompiledWithoutLeak map options file world summary → TellsOfMap map options file
 tells_of_map map options file world summary is = record {
   contents = is.gives_contents.gives;
   unfilled = is.tree;
@@ -41,6 +42,8 @@ tells_of_map map options file world summary is = record {
   world = world;
   is_world = is.is_world;
   bounded = bounded options.fast options.threads world is.rows is.are_rows;
+  spans = spans_of_compiled map options file world summary is;
+  hull_spans = hull_spans_of_compiled map options file world summary is;
   sections = is.has_sections;
   form = is.has_form;
 }
@@ -52,10 +55,9 @@ module _ (before after : ShelfState) (tells : IsTrue before.tells) (options : Op
   of_output map output means held done (inl tight) = record {
     map = map;
     means = means;
-    bytes = output.file;
-    held = held;
     file = tight.file;
-    read = tight.is_file.read_again;
+    valid = tight.is_file.valid;
+    held = subst (HoldsExactly after files.out_name) tight.is_file.exactly held;
     tells = tells_of_map map options tight.file tight.world tight.summary tight.is_compiled;
   }
   of_output map output means held done (inr leaks) = absurd (let same : Leak ≡ Done = sym leaks.is_status ∙ done in cc)

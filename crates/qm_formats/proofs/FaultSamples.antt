@@ -12,8 +12,8 @@ use Rattle.qm_formats.specs.RowBits.{packed, unpacked, is_clear_past, row_bits}
 use Rattle.qm_formats.specs.FileParts.{FileFaultKind, short, magic, counts, plane_form, node_order, leaf_form, row_form, trailing, too_long, header_form, section_form, is_plane, plane_layout, child_layout, node_layout, is_leaf, leaf_layout}
 use Rattle.qm_formats.specs.FileLayout.{magic_layout, bound_layout, section_count_layout, file_header_layout, are_numbered, numbered_answer, are_ordered, own_row_layout, planes_layout, nodes_layout, leaves_layout, rows_layout, tree_layout, section_head_layout, section_layout, sections_layout, file_layout, read_file}
 use Rattle.qm_formats.proofs.ExactFields.{bytes-are}
-use Rattle.qm_file.specs.TreeFaults.{IsFaultOfFileBytes, too_many_bytes}
-use Rattle.qm_file.proofs.TreeFaults.{tree_fault_in_words, tree_fault_again}
+use Rattle.qm_formats.specs.TreeFaults.{IsFaultOfFileBytes, too_many_bytes}
+use Rattle.qm_formats.proofs.TreeFaults.{tree_fault_in_words, tree_fault_again}
 
 -- the header of version 2, a leaf of air, and the row in which it sees itself
 abbrev file : List ℕ

@@ -28,10 +28,10 @@ use Rattle.qm_formats.proofs.ExactFile.{magic_exact, bound_exact, header_exact, 
 use Rattle.qm_formats.proofs.ValidFiles.{right_valid, valid_right}
 use Rattle.qm_formats.proofs.ShortFaults.{map_bad, then_bad, chosen_bad, chosen_end, stands_from}
 use Rattle.qm_formats.proofs.Standing.{stands_nothing, stands_both, stands_first, stands_second}
-use Rattle.qm_file.specs.FirstFault.{Faults, EndsWithin, IsNoneAt, IsCutOff, IsFaultOfRecord, IsFaultOfEach}
-use Rattle.qm_file.specs.TreeFaults.{size_since_second, IsMagicFault, magic_cut_off, other_magic, IsHeaderFault, IsPlaneFault, IsNodesFault, IsLeafFault, IsLeavesFault, in_leaf, other_count, IsTreeFault, RowEnds, IsRowFault, IsRowsFault, last_kind, IsSectionFault, IsSectionsFault, IsFaultOfParts, IsFaultOfFileBytes, too_many_bytes, in_part, behind_file}
-use Rattle.qm_file.proofs.SizedRecords.{IsSized, raw_sized, seen_as_sized, unsigned_sized, signed_sized, unwritten_sized, part_sized, last_part_sized, followed_by_sized, choice_sized, many_sized}
-use Rattle.qm_file.proofs.RecordFaults.{GivesFaults, IsRecord, sized_record, seen_as_record, tested_record, record_faults, sized_faults, last_part_faults, part_faults, each_faults}
+use Rattle.qm_formats.specs.FirstFault.{Faults, EndsWithin, IsNoneAt, IsCutOff, IsFaultOfRecord, IsFaultOfEach}
+use Rattle.qm_formats.specs.TreeFaults.{size_since_second, IsMagicFault, magic_cut_off, other_magic, IsHeaderFault, IsPlaneFault, IsNodesFault, IsLeafFault, IsLeavesFault, in_leaf, other_count, IsTreeFault, RowEnds, IsRowFault, IsRowsFault, last_kind, IsSectionFault, IsSectionsFault, IsFaultOfParts, IsFaultOfFileBytes, too_many_bytes, in_part, behind_file}
+use Rattle.qm_formats.proofs.SizedRecords.{IsSized, raw_sized, seen_as_sized, unsigned_sized, signed_sized, unwritten_sized, part_sized, last_part_sized, followed_by_sized, choice_sized, many_sized}
+use Rattle.qm_formats.proofs.RecordFaults.{GivesFaults, IsRecord, sized_record, seen_as_record, tested_record, record_faults, sized_faults, last_part_faults, part_faults, each_faults}
 
 -- ---- the header
 
