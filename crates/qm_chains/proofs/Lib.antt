@@ -15,3 +15,5 @@ pub mod LeftToEnter
 pub mod Words
 pub mod PairRows
 pub mod PairSamples
+pub mod FourRooms
+pub mod FrameSamples
