@@ -1,6 +1,6 @@
 -- A worked world: four rooms in a row, and a segment through all of them. So the last room is in sight of the first door, and it is
 -- seen via the second one.
-use Rattle.std.proofs.Common.{◌≡◌, ℕ, ℤ, pos, neg_ℤ, ◌<ℤ◌, int_lt, Bool, [], ◌∷◌, Contains, if◌then◌else◌, true, false, refl, sym, ap, ◌∙◌, subst, arith, ⊎_elim}
+use Rattle.std.proofs.Common.{◌≡◌, ℕ, pos, neg_ℤ, ◌<ℤ◌, int_lt, Bool, [], ◌∷◌, Contains, if◌then◌else◌, true, false, refl, sym, ap, ◌∙◌, subst, arith, ⊎_elim}
 use Rattle.std.proofs.lemmas.Int.{ints}
 use Rattle.std.proofs.lemmas.List.Elements.{All-from_recursion, All-contains}
 use Rattle.qm_space.specs.Point.{Point}

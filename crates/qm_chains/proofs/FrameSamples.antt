@@ -6,11 +6,9 @@ use Rattle.std.proofs.lemmas.List.Elements.{All-from_recursion}
 use Rattle.qm_lists.specs.WorkList.{IsIn}
 use Rattle.qm_lists.proofs.Elements.{Contains-cons_cases}
 use Rattle.qm_space.specs.Plane.{value, IsInFront}
-use Rattle.qm_space.specs.Meet.{meet}
-use Rattle.qm_space.specs.Determinant.{determinant}
-use Rattle.qm_convex.specs.Winding.{corner_at, next_place, IsInRegion}
+use Rattle.qm_convex.specs.Winding.{IsInRegion}
 use Rattle.qm_contacts.specs.Portals.{Portal}
-use Rattle.qm_coarse_rows.proofs.RoomSamples.{rooms, door, touchings, portals, out, in_again, on, back}
+use Rattle.qm_coarse_rows.proofs.RoomSamples.{rooms, door, touchings, out, in_again, on, back}
 use Rattle.qm_segments.specs.SeenVia.{LiesOnWay, LiesFartherOn}
 use Rattle.qm_segments.specs.GoesThrough.{GoesThrough}
 use Rattle.qm_segments.specs.LeafNumber.{IsNumberOf}

@@ -17,3 +17,4 @@ pub mod PairRows
 pub mod PairSamples
 pub mod FourRooms
 pub mod FrameSamples
+pub mod PartsSamples
