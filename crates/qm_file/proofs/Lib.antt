@@ -8,3 +8,4 @@ pub mod SizedRecords
 pub mod RecordFaults
 pub mod TreeFaults
 pub mod FaultSamples
+pub mod FieldSamples
