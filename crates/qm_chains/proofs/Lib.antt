@@ -15,3 +15,6 @@ pub mod LeftToEnter
 pub mod Words
 pub mod PairRows
 pub mod PairSamples
+pub mod FourRooms
+pub mod FrameSamples
+pub mod PartsSamples

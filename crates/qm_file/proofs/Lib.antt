@@ -4,3 +4,4 @@ pub mod Faults
 pub mod Unpacking
 pub mod NumberedTest
 pub mod Answered
+pub mod FieldSamples
