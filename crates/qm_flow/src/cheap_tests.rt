@@ -1,6 +1,7 @@
 //! Whether a portal may lead on at the end of a chain.
 
 ghost use Rattle.std.specs.Prelude.{◌≡◌, ◌<◌, true, false, length, IfOk};
+ghost use Rattle.std.specs.List.Sorted.{IsPermutation};
 ghost use Rattle.qm_lists.specs.WorkList.{IsIn};
 ghost use Rattle.qm_contacts.specs.Portals.{Portal};
 ghost use Rattle.qm_chains.specs.Shown.{IsAt};
@@ -48,16 +49,35 @@ pub(crate) fn may_lead_on<'a, S: RowSource>(
     frame: &Frame<'a>,
     portal: u64,
     found: &BitRow,
-    words: &[u64],
+    words: &mut [u64],
 ) -> bool
     requires portal { portal < length flow.now.world.now.portals }
     requires of_world { AreOfWorld flow.now.world.now (S.world source.old) (pairs_of flow.now) frame.now found.now }
-    requires words { HaveAllNew frame.now.mask found.now words.now }
+    requires words { HaveAllNew frame.now.mask found.now words.old }
     ensures none { result ≡ false → (q : Portal) → IsAt flow.now.world.now.portals portal q → LeadsOn flow.now.world.now flow.now.first frame.now found.now q → ⊥ }
     ensures on { S.goes_on source.old source.new }
 {
-    if !may_show(&flow.own, source, portal, &frame.mask, found, words) {
+    if !may_show_more(flow, source, frame, portal, found, words) {
         return false;
     }
     may_pass(&frame.state, flow.world.pane(portal))
+}
+
+/// Whether a portal may show a leaf of the mask of a frame that was not found.
+fn may_show_more<'a, S: RowSource>(
+    flow: &Flow<'a>,
+    source: &mut S,
+    frame: &Frame<'a>,
+    portal: u64,
+    found: &BitRow,
+    words: &mut [u64],
+) -> bool
+    requires portal { portal < length flow.now.world.now.portals }
+    requires of_world { AreOfWorld flow.now.world.now (S.world source.old) (pairs_of flow.now) frame.now found.now }
+    requires words { HaveAllNew frame.now.mask found.now words.old }
+    ensures none { result ≡ false → (q : Portal) → IsAt flow.now.world.now.portals portal q → LeadsOn flow.now.world.now flow.now.first frame.now found.now q → ⊥ }
+    ensures words { IsPermutation words.old words.new }
+    ensures on { S.goes_on source.old source.new }
+{
+    may_show(&flow.own, source, portal, &frame.mask, found, words)
 }

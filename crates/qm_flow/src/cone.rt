@@ -131,7 +131,7 @@ fn enter<'a, S: RowSource>(
     if !scratch.left.get(to) {
         return Ok(());
     }
-    let words = &scratch.words;
+    let words = &mut scratch.words;
     if !may_lead_on(flow, source, frame, portal, found, words) {
         return Ok(());
     }
