@@ -4,13 +4,13 @@
 mod across;
 mod aims;
 mod beam;
+mod beyond;
 mod candidates;
 mod chain_state;
 mod corner_lists;
 mod crossing;
 mod divisor;
 mod edge;
-mod filled;
 pub mod laws;
 mod lowest;
 mod multiples;
@@ -33,7 +33,7 @@ mod turn;
 mod whole;
 
 pub use chain_state::ChainState;
-pub use passing::may_pass;
+pub use passing::{may_pass, may_pass_measured};
 pub use separating::separators;
 pub use step_buffers::StepBuffers;
 pub use stepping::{step, step_into};
