@@ -5,3 +5,4 @@ pub mod AddedPairs
 pub mod VisitedCells
 pub mod LinkedLeaves
 pub mod FilledRows
+pub mod LeafExits

@@ -3,10 +3,6 @@ use Rattle.qm_contacts.specs.Portals.{Portal}
 use Rattle.qm_portal.specs.declared.exit.Exit.{Exit}
 use Rattle.qm_portal.specs.Exits.{IsExitOf}
 
--- the numbers of exits
-abbrev pub portals_left_by : List Exit → List ℕ
-portals_left_by exits = map (λ exit. exit.portal) exits
-
 -- the portals at some places as exits, in the order of the places
 pub record AreExits (portals : List Portal) (places : List ℕ) (exits : List Exit) : Type 0 where
   pub places_are : map (λ exit. exit.portal) exits ≡ places

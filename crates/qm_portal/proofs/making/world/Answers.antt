@@ -27,8 +27,8 @@ of-requires-2-clause-among c =
     subst (All (λ (p : Portal). p.from < c.len.result)) (sym portals_are)
     (All-weaker (IsAmong (length (numbered_leaves tree))) (λ (p : Portal). p.from < c.len.result) (λ p is. omega (arith, is.from, count, c.len.ensures, numbered.ok.0)) (portals_of tree touchings) (portals_among tree touchings c.requires.touching))
 
-pub of-requires-3 : goal.of-requires-3
-of-requires-3 c =
+pub of-requires-3-clause-parts : goal.of-requires-3-clause-parts
+of-requires-3-clause-parts c =
     let tree = c.args.tree.now in
     let touchings = c.args.touches.now.touchings in
     let numbered = c.in_ok-numbers.numbers.numbered in
@@ -36,14 +36,14 @@ of-requires-3 c =
     let count : length (numbered_leaves tree) ≡ length numbered.items = sym (ap length c.in_ok-numbers.ensures.numbered_are ∙ ap (λ (all : List Leaf). length (numbered_from all 0)) c.all_leaves.ensures) in
     let portals_are : portals_of tree touchings ≡ portals = sym (c.in_ok-portals.ensures ∙ ap (portals_of tree) c.touchings.ensures) in
     let all : c.len.result ≡ length numbered.items = omega (arith, c.len.ensures, numbered.ok.0) in
-    let leaves : c.all_leaves.result.now ≡ leaves_of c.in_ok-copy.field-0.shape = c.all_leaves.ensures ∙ ap (λ (t : Tree). leaves_of t.shape) (sym c.in_ok-copy.ensures) in
-    let leaving : AreLeavingInRows portals c.len.result c.in_ok-leaving.leaving.begins.items c.in_ok-leaving.leaving.places.items = rw c.deref-2.ensures.value at c.in_ok-leaving.ensures in
+    let leaves : c.all_leaves.result.now ≡ leaves_of c.in_ok-tree.tree.shape = c.all_leaves.ensures ∙ ap (λ (t : Tree). leaves_of t.shape) (sym c.in_ok-tree.ensures) in
+    let leaving : AreLeavingInRows portals c.len.result c.in_ok-leaving.leaving.begins.items c.in_ok-leaving.leaving.places.items = rw c.deref-2.ensures.value at c.in_ok-leaving.ensures.rows in
     record {
       own = record {
-        have_points = subst HasPoints (sym c.in_ok-copy.ensures) c.requires.points;
+        have_points = subst HasPoints (sym c.in_ok-tree.ensures) c.requires.points;
         touchings = touchings;
-        are_touchings = subst (λ (t : Tree). AreTouchings t.planes (meetings t) touchings) (sym c.in_ok-copy.ensures) c.requires.touching;
-        portals_are = sym portals_are ∙ ap (λ (t : Tree). portals_of t touchings) (sym c.in_ok-copy.ensures);
+        are_touchings = subst (λ (t : Tree). AreTouchings t.planes (meetings t) touchings) (sym c.in_ok-tree.ensures) c.requires.touching;
+        portals_are = sym portals_are ∙ ap (λ (t : Tree). portals_of t touchings) (sym c.in_ok-tree.ensures);
       };
       numbers = subst (λ (found : List Leaf). AreNumbersOf found numbered.items c.in_ok-numbers.numbers.before.items) leaves c.in_ok-numbers.ensures;
       entered_are = c.in_ok-entered.ensures ∙ ap leaves_to c.deref-3.ensures.value;
@@ -54,4 +54,4 @@ of-requires-3 c =
 pub returns : goal.returns
 returns c =
     let portals_are = c.in_ok-portals.ensures ∙ ap (portals_of c.args.tree.now) c.touchings.ensures in
-    c.of-3.ensures ∙ (λ i. record { tree = c.in_ok-copy.ensures i; portals = portals_are i })
+    c.of-3.ensures ∙ (λ i. record { tree = c.in_ok-tree.ensures i; portals = portals_are i })

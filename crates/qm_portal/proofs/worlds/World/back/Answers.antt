@@ -6,7 +6,7 @@ use Rattle.qm_portal.proofs.worlds.World.back.Goals as goal
 pub returns-then-p-eq0-clause-back : goal.returns-then-p-eq0-clause-back
 returns-then-p-eq0-clause-back c =
     let world = c.args.self.now in
-    leads_back world.tree world.portals (subst HasOwnPortals c.self.view_is c.self.invariant.own) c.args.p (c.args.p + 1) c.requires (inl (c.if-p-eq0.true, refl))
+    leads_back world.tree world.portals (subst HasOwnPortals c.self.view_is c.self.invariant.0.own) c.args.p (c.args.p + 1) c.requires (inl (c.if-p-eq0.true, refl))
 
 pub returns-then-p-eq0-clause-within : goal.returns-then-p-eq0-clause-within
 returns-then-p-eq0-clause-within c = back_within c.args.self.now.portals c.args.p (c.args.p + 1) (returns-then-p-eq0-clause-back c)
@@ -15,4 +15,4 @@ pub returns-else-p-eq0-clause-back : goal.returns-else-p-eq0-clause-back
 returns-else-p-eq0-clause-back c =
     let world = c.args.self.now in
     let odd = c.if-p-eq0.false in
-    leads_back world.tree world.portals (subst HasOwnPortals c.self.view_is c.self.invariant.own) c.args.p (c.args.p - 1) c.requires (inr (omega (arith, odd), refl))
+    leads_back world.tree world.portals (subst HasOwnPortals c.self.view_is c.self.invariant.0.own) c.args.p (c.args.p - 1) c.requires (inr (omega (arith, odd), refl))

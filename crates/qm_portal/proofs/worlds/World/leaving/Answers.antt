@@ -11,9 +11,9 @@ pub returns : goal.returns
 returns c =
     let parts = c.self.inside in
     let begins = parts.leaving.begins.items in
-    let rows = c.self.invariant.leaving in
+    let rows = c.self.invariant.0.leaving in
     let n = c.args.n in
-    let count : length parts.numbers.numbered.items ≡ length (numbered_leaves c.args.self.now.tree) = ap length c.self.invariant.numbers.numbered_are ∙ ap (λ (w : World). length (numbered_leaves w.tree)) c.self.view_is in
+    let count : length parts.numbers.numbered.items ≡ length (numbered_leaves c.args.self.now.tree) = ap length c.self.invariant.0.numbers.numbered_are ∙ ap (λ (w : World). length (numbered_leaves w.tree)) c.self.view_is in
     let within : n < length parts.numbers.numbered.items = omega (arith, c.requires, count) in
     let first : c.index.result.now ≡ get_or begins n 0 = c.index.ensures ∙ get_or_default begins n c.index.result.now 0 (omega (arith, within, rows.one_each)) in
     let end : c.index-2.result.now ≡ get_or begins (n + 1) 0 = c.index-2.ensures ∙ get_or_default begins (n + 1) c.index-2.result.now 0 (omega (arith, within, rows.one_each)) in

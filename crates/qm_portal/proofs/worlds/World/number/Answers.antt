@@ -15,8 +15,8 @@ returns-then-is_numbered c =
     let leaf = c.args.leaf in
     let before = parts.numbers.before.items in
     let there = slice_get_within (leaves_of parts.tree.shape) leaf c.leaf.result c.leaf.ensures in
-    let long : leaf < length before = omega (arith, there, c.self.invariant.numbers.before_are.one_each) in
-    let number : c.index.result.now ≡ leaf_number parts.tree leaf = c.index.ensures ∙ get_or_default before leaf c.index.result.now 0 long ∙ number_before parts.tree before leaf c.self.invariant.numbers.before_are there in
+    let long : leaf < length before = omega (arith, there, c.self.invariant.0.numbers.before_are.one_each) in
+    let number : c.index.result.now ≡ leaf_number parts.tree leaf = c.index.ensures ∙ get_or_default before leaf c.index.result.now 0 long ∙ number_before parts.tree before leaf c.self.invariant.0.numbers.before_are there in
     let found = leaf_at_number parts.tree leaf c.leaf.result c.leaf.ensures (sym c.is_numbered.ensures ∙ c.if-is_numbered.true) in
     rw number (subst (λ (w : World). slice_get (numbered_leaves w.tree) (leaf_number parts.tree leaf) ≡ Some leaf) c.self.view_is found)
 
