@@ -7,6 +7,7 @@ use Rattle.qm_chains.specs.inner.OwnRows.{AreOwnRows, MustHave}
 use Rattle.qm_chains.proofs.PairRows.{none_wanted}
 use Rattle.qm_flow.specs.inner.FlowPairs.{pairs_of}
 use Rattle.qm_flow.specs.inner.NewWords.{HaveAllNew}
+use Rattle.qm_flow.proofs.NewWords.{listed_anew}
 use Rattle.qm_flow.proofs.cheap_tests.may_show_more.Goals as goal
 
 pub may_show-requires-clause-portal : goal.may_show-requires-clause-portal
@@ -38,3 +39,6 @@ returns-clause-none g c is q at leads =
     let nothing = subst (λ (mask : List Bool). ShowsNothingNew (MustHave world pairs.own portal) mask found) (ap (λ (f : Frame). f.mask) c.frame.view_is)
     ((subst (λ (w : World). ShowsNothingNew (MustHave w c.args.flow.now.own portal) c.frame.inside.mask found) c.requires.of_world.same_world (c.may_show.ensures.none is))) in
     none_wanted world found pairs c.requires.of_world.pairs_are portal c.args.frame.now.mask nothing leads.leaf leads.in_mask leads.not_found (record { portal = q; portal_is = at; wanted = leads.wanted })
+
+pub returns-clause-words : goal.returns-clause-words
+returns-clause-words g c = listed_anew c.args.frame.now.mask c.args.found.now c.args.words.now c.may_show.new.words c.may_show.ensures.words c.requires.words
