@@ -40,7 +40,7 @@ impl<'a> MeasuredPane<'a> {
     }
 
     /// Its extent.
-    pub fn extent(&self) -> &Extent
+    pub fn measure(&self) -> &Extent
         ensures { IsExtentOf self.now result.now }
     {
         self.extent

@@ -1,8 +1,6 @@
-use Rattle.std.proofs.Common.{◌≡◌, List, take, sym, ◌∙◌}
+use Rattle.std.proofs.Common.{◌≡◌, take, sym, ◌∙◌}
 use Rattle.std.proofs.lemmas.List.{get_or_default}
 use Rattle.qm_lists.proofs.Places.{take-read}
-use Rattle.qm_portal.specs.declared.exit.Exit.{Exit}
-use Rattle.qm_portal.specs.inner.WorldExits.{AreExits}
 use Rattle.qm_portal.proofs.LeafExits.{one_exit}
 use Rattle.qm_portal.proofs.making.exits_at.Goals as goal
 
