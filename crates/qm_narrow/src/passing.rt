@@ -28,7 +28,7 @@ pub fn may_pass_measured(state: &ChainState, pane: &MeasuredPane<'_>) -> bool
     let planes = state.separators();
     let winding = &pane.pane().winding;
     let _corners = winding.len();
-    let extent = pane.extent();
+    let extent = pane.measure();
     if !reaches_all(&extent.cuboid, planes) {
         return false;
     }

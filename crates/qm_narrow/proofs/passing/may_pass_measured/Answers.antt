@@ -14,29 +14,29 @@ returns-then-not-reaches_all c =
     let convex = subst (λ (p : Pane). IsConvex p.winding) c.pane.ensures c.len-corners.ensures.in_world.convex in (
       (λ told. let never : false ≡ true = told in cc),
       (λ may. sym c.if-not-reaches_all.true
-          ∙ c.reaches_all.ensures.1 (reach_by_beyond pane.winding c.extent-extent.result.now.cuboid convex c.extent-extent.ensures.within c.separators-planes.result.now (λ h there. may.beyond h ((c.separators-planes.ensures h).0 there)))),
+          ∙ c.reaches_all.ensures.1 (reach_by_beyond pane.winding c.measure-extent.result.now.cuboid convex c.measure-extent.ensures.within c.separators-planes.result.now (λ h there. may.beyond h ((c.separators-planes.ensures h).0 there)))),
     )
 
 pub returns-then-not-pass_is_behind : goal.returns-then-not-pass_is_behind
 returns-then-not-pass_is_behind c = (
   (λ told. let never : false ≡ true = told in cc),
   (λ may. sym c.if-not-pass_is_behind.true
-      ∙ c.pass_is_behind.ensures.1 (subst (λ (pass : Option Winding). MatchOption pass (Unit {0}) (λ p. HasCornerBehind p c.extent-extent.result.now.into)) (sym c.pass.ensures.value)
-      (subst (λ (into : Plane). MatchOption c.args.state.now.pass (Unit {0}) (λ p. HasCornerBehind p into)) (sym c.extent-extent.ensures.into) may.pass_behind))),
+      ∙ c.pass_is_behind.ensures.1 (subst (λ (pass : Option Winding). MatchOption pass (Unit {0}) (λ p. HasCornerBehind p c.measure-extent.result.now.into)) (sym c.pass.ensures.value)
+      (subst (λ (into : Plane). MatchOption c.args.state.now.pass (Unit {0}) (λ p. HasCornerBehind p into)) (sym c.measure-extent.ensures.into) may.pass_behind))),
 )
 
 pub returns-then-not-has_corner_behind : goal.returns-then-not-has_corner_behind
 returns-then-not-has_corner_behind c = (
   (λ told. let never : false ≡ true = told in cc),
   (λ may. sym c.if-not-has_corner_behind.true
-      ∙ c.has_corner_behind.ensures.1 (subst (λ (v : Winding). HasCornerBehind v c.extent-extent.result.now.into) (sym c.trace.ensures) (subst (HasCornerBehind c.args.state.now.source) (sym c.extent-extent.ensures.into) may.source_behind))),
+      ∙ c.has_corner_behind.ensures.1 (subst (λ (v : Winding). HasCornerBehind v c.measure-extent.result.now.into) (sym c.trace.ensures) (subst (HasCornerBehind c.args.state.now.source) (sym c.measure-extent.ensures.into) may.source_behind))),
 )
 
 pub returns-then-extent : goal.returns-then-extent
 returns-then-extent c =
     let winding = c.args.pane.now.winding in
-    let extent = c.extent-extent.result.now in
-    let is = c.extent-extent.ensures in
+    let extent = c.measure-extent.result.now in
+    let is = c.measure-extent.ensures in
     let convex = subst (λ (p : Pane). IsConvex p.winding) c.pane.ensures c.len-corners.ensures.in_world.convex in
     let all = is.full c.if-extent.true in
     let planes = c.separators-planes.result.now in
@@ -60,8 +60,8 @@ returns-then-not-has_corner_in_front c = (
 
 pub returns : goal.returns
 returns c =
-    let extent = c.extent-extent.result.now in
-    let is = c.extent-extent.ensures in
+    let extent = c.measure-extent.result.now in
+    let is = c.measure-extent.ensures in
     let planes = c.separators-planes.result.now in
     let ahead = c.into-2.result.now in (
       (λ told. record {
