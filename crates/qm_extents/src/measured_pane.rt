@@ -6,6 +6,7 @@ use qm_wind::Pane;
 use std::marker::Model;
 
 /// A pane with its extent.
+#[derive(Drop)]
 pub struct MeasuredPane<'a> {
     pane: &'a Pane,
     extent: &'a Extent,

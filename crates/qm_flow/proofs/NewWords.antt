@@ -1,9 +1,11 @@
 -- Words of a mask that have something new: they are listed one after another, and a row that shows nothing in them shows nothing new.
-use Rattle.std.proofs.Common.{◌≡◌, ⊎_elim, ℕ, zero, suc, ◌+◌, ◌*◌, ◌/◌, ◌^◌, ◌<◌, Bool, true, false, List, [], ◌∷◌, ◌++◌, Contains, get_or, bit_and, w64, sym, ◌∙◌, subst, arith}
+use Rattle.std.proofs.Common.{◌≡◌, ⊎_elim, ℕ, zero, suc, ◌+◌, ◌*◌, ◌/◌, ◌^◌, ◌<◌, Bool, true, false, List, [], ◌∷◌, ◌++◌, length, Contains, get_or, bit_and, w64, sym, ◌∙◌, subst, arith}
 use Rattle.std.specs.Int.{bit_not}
 use Rattle.std.specs.Int.Bits.{and_lt}
+use Rattle.std.specs.List.Sorted.{IsPermutation}
 use Rattle.std.proofs.lemmas.Bool.{and_parts, not-true}
 use Rattle.std.proofs.lemmas.List.Elements.{Contains-append_left, Contains-append_right, Contains-append_cases}
+use Rattle.std.proofs.lemmas.List.Sorted.{All-permutation, Contains-permutation}
 use Rattle.qm_lists.specs.Unseen.{HasUnseen}
 use Rattle.qm_lists.specs.Word.{has_bit, IsWord}
 use Rattle.qm_lists.specs.WorkList.{IsIn}
@@ -12,6 +14,7 @@ use Rattle.qm_lists.proofs.Elements.{Contains-first}
 use Rattle.qm_chains.specs.inner.Narrowing.{ShowsNothingNew, ShowsNothingNewUpTo}
 use Rattle.qm_chains.proofs.Words.{shows_none_there}
 use Rattle.qm_chains.proofs.TriedPortals.{in_or_clear, not_in_if_clear}
+use Rattle.qm_flow.specs.inner.NewWords.{HaveAllNew}
 
 only_one : {X : Type 0} (a x : X) → Contains (a ∷ []) x → x ≡ a
 only_one a x (zero, within, is) = sym is
@@ -22,6 +25,13 @@ module _ (mask found : List Bool) where
   list_more words k so_far n before in_mask other =
       let not_here : n / 64 ≡ k → ⊥ = λ here. other (subst (Contains (words ++ k ∷ [])) (sym here) (Contains-append_right words (k ∷ []) k (Contains-first k []))) in
       so_far n (omega (arith, before, not_here)) in_mask (λ has. other (Contains-append_left words (k ∷ []) (n / 64) has))
+
+  -- in another order they are the same words
+  pub listed_anew : (words new : List ℕ) → IsPermutation words new → HaveAllNew mask found words → HaveAllNew mask found new
+  listed_anew words new moved all = record {
+    within = All-permutation (λ k. 64 * k < length mask) words new moved all.within;
+    all_new = λ n in_mask other. all.all_new n in_mask (λ has. other (Contains-permutation words new (n / 64) moved has));
+  }
 
   module _ (Must : ℕ → Type 0) where
     -- the word of a row has none of what is new in this word of the mask

@@ -3,6 +3,7 @@
 ghost use Rattle.std.specs.Prelude.{◌≡◌, ◌<◌, true, false, length, IfOk};
 ghost use Rattle.qm_lists.specs.WorkList.{IsIn};
 ghost use Rattle.qm_contacts.specs.Portals.{Portal};
+ghost use Rattle.qm_portal.specs.Exits.{IsExitOf};
 ghost use Rattle.qm_chains.specs.Shown.{IsAt};
 ghost use Rattle.qm_chains.specs.inner.Cone.{LeadsOn};
 ghost use Rattle.qm_flow.specs.inner.FlowPairs.{pairs_of};
@@ -13,7 +14,8 @@ use crate::flow_state::Flow;
 use crate::frame::Frame;
 use crate::masks::{list_new, may_show};
 use qm_bits::BitRow;
-use qm_narrow::may_pass;
+use qm_narrow::{may_pass, may_pass_measured};
+use qm_portal::Exit;
 use qm_sight::RowSource;
 use std::alloc::AllocError;
 
@@ -42,22 +44,63 @@ pub(crate) fn passes_cheap_tests<'a, S: RowSource>(
 
 /// Whether a portal into a leaf that the chain may enter may lead on: it may show a leaf of the mask that was not found, and the
 /// state lets it pass.
-pub(crate) fn may_lead_on<'a, S: RowSource>(
+fn may_lead_on<'a, S: RowSource>(
     flow: &Flow<'a>,
     source: &mut S,
     frame: &Frame<'a>,
     portal: u64,
     found: &BitRow,
-    words: &[u64],
+    words: &mut [u64],
 ) -> bool
     requires portal { portal < length flow.now.world.now.portals }
     requires of_world { AreOfWorld flow.now.world.now (S.world source.old) (pairs_of flow.now) frame.now found.now }
-    requires words { HaveAllNew frame.now.mask found.now words.now }
+    requires words { HaveAllNew frame.now.mask found.now words.old }
     ensures none { result ≡ false → (q : Portal) → IsAt flow.now.world.now.portals portal q → LeadsOn flow.now.world.now flow.now.first frame.now found.now q → ⊥ }
     ensures on { S.goes_on source.old source.new }
 {
-    if !may_show(&flow.own, source, portal, &frame.mask, found, words) {
+    if !may_show_more(flow, source, frame, portal, found, words) {
         return false;
     }
     may_pass(&frame.state, flow.world.pane(portal))
+}
+
+/// The same of an exit of a leaf, by its extent.
+pub(crate) fn exit_may_lead_on<'a, S: RowSource>(
+    flow: &Flow<'a>,
+    source: &mut S,
+    frame: &Frame<'a>,
+    exit: &Exit,
+    found: &BitRow,
+    words: &mut [u64],
+) -> bool
+    requires exit { IsExitOf flow.now.world.now.portals exit.now }
+    requires of_world { AreOfWorld flow.now.world.now (S.world source.old) (pairs_of flow.now) frame.now found.now }
+    requires words { HaveAllNew frame.now.mask found.now words.old }
+    ensures none { result ≡ false → (q : Portal) → IsAt flow.now.world.now.portals exit.now.portal q → LeadsOn flow.now.world.now flow.now.first frame.now found.now q → ⊥ }
+    ensures words { HaveAllNew frame.now.mask found.now words.new }
+    ensures on { S.goes_on source.old source.new }
+{
+    if !may_show_more(flow, source, frame, exit.portal, found, words) {
+        return false;
+    }
+    may_pass_measured(&frame.state, &flow.world.measured_pane(exit))
+}
+
+/// Whether a portal may show a leaf of the mask of a frame that was not found.
+fn may_show_more<'a, S: RowSource>(
+    flow: &Flow<'a>,
+    source: &mut S,
+    frame: &Frame<'a>,
+    portal: u64,
+    found: &BitRow,
+    words: &mut [u64],
+) -> bool
+    requires portal { portal < length flow.now.world.now.portals }
+    requires of_world { AreOfWorld flow.now.world.now (S.world source.old) (pairs_of flow.now) frame.now found.now }
+    requires words { HaveAllNew frame.now.mask found.now words.old }
+    ensures none { result ≡ false → (q : Portal) → IsAt flow.now.world.now.portals portal q → LeadsOn flow.now.world.now flow.now.first frame.now found.now q → ⊥ }
+    ensures words { HaveAllNew frame.now.mask found.now words.new }
+    ensures on { S.goes_on source.old source.new }
+{
+    may_show(&flow.own, source, portal, &frame.mask, found, words)
 }

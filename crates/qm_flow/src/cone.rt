@@ -1,9 +1,10 @@
 //! The cone of a frame: the leaves that its chain may still come to.
 
-ghost use Rattle.std.specs.Prelude.{ℕ, ◌≡◌, ◌<◌, [], ◌∷◌, length, All, IfOk, OnOk};
+ghost use Rattle.std.specs.Prelude.{ℕ, ◌≡◌, ◌<◌, [], ◌∷◌, length, All, map, IfOk, OnOk};
 ghost use Rattle.std.specs.Bool.{then_some};
 ghost use Rattle.qm_lists.specs.WorkList.{IsIn};
 ghost use Rattle.qm_contacts.specs.NumberedLeaves.{numbered_leaves};
+ghost use Rattle.qm_portal.specs.Exits.{IsExitOf};
 ghost use Rattle.qm_chains.specs.inner.Cone.{LeadsInto, IsInCone, IsLeftOf, AreEntered, AreLeft};
 ghost use Rattle.qm_chains.specs.inner.Walk.{AreWide};
 ghost use Rattle.qm_flow.specs.inner.FlowPairs.{pairs_of};
@@ -11,12 +12,13 @@ ghost use Rattle.qm_flow.specs.inner.CutFrame.{IsCutFrame};
 ghost use Rattle.qm_flow.specs.inner.NewWords.{HaveAllNew};
 ghost use Rattle.qm_flow.specs.inner.OfWorld.{AreOfWorld};
 
-use crate::cheap_tests::may_lead_on;
+use crate::cheap_tests::exit_may_lead_on;
 use crate::flow_state::Flow;
 use crate::frame::Frame;
 use crate::masks::{copy_row, list_new, take_one, take_out};
 use crate::room::Scratch;
 use qm_bits::BitRow;
+use qm_portal::Exit;
 use qm_sight::RowSource;
 use std::alloc::AllocError;
 
@@ -77,66 +79,67 @@ pub(crate) fn cone_of<'a, S: RowSource>(
     scratch.due.push(entered)?;
     list_new(&frame.mask, found, &mut scratch.words)?;
     while let Some(leaf) = scratch.due.pop() {
-        let portals = flow.world.leaving(leaf);
-        go_on(flow, source, frame, found, portals, scratch)?;
+        let exits = flow.world.exits(leaf);
+        go_on(flow, source, frame, found, exits, scratch)?;
     }
     Ok(())
 }
 
-/// Enters the leaves into which portals may lead on.
+/// Enters the leaves into which exits of a leaf may lead on.
 fn go_on<'a, S: RowSource>(
     flow: &Flow<'a>,
     source: &mut S,
     frame: &Frame<'a>,
     found: &BitRow,
-    portals: &[u64],
+    exits: &[Exit],
     scratch: &mut Scratch,
 ) -> Result<(), AllocError>
-    requires portals { All (λ p. p < length flow.now.world.now.portals) portals.now }
+    requires exits { All (IsExitOf flow.now.world.now.portals) exits.now }
+    requires within { All (λ exit. exit.to < length (numbered_leaves flow.now.world.now.tree)) exits.now }
     requires of_world { AreOfWorld flow.now.world.now (S.world source.old) (pairs_of flow.now) frame.now found.now }
     requires cone { length scratch.old.cone ≡ length (numbered_leaves flow.now.world.now.tree) }
     requires left { AreLeft frame.now scratch.old.cone scratch.old.left }
     requires words { HaveAllNew frame.now.mask found.now scratch.old.words.items }
     ensures left { OnOk result (AreLeft frame.now scratch.new.cone scratch.new.left) }
-    ensures entered { OnOk result (AreEntered (LeadsInto flow.now.world.now flow.now.first frame.now found.now portals.now) scratch.old.cone scratch.new.cone scratch.old.due.items scratch.new.due.items) }
-    ensures words { OnOk result (scratch.new.words.items ≡ scratch.old.words.items) }
+    ensures entered { OnOk result (AreEntered (LeadsInto flow.now.world.now flow.now.first frame.now found.now (map (λ exit. exit.portal) exits.now)) scratch.old.cone scratch.new.cone scratch.old.due.items scratch.new.due.items) }
+    ensures words { OnOk result (HaveAllNew frame.now.mask found.now scratch.new.words.items) }
     ensures on { S.goes_on source.old source.new }
 {
-    for portal in portals {
-        enter(flow, source, frame, found, *portal, scratch)?;
+    for exit in exits {
+        enter(flow, source, frame, found, exit, scratch)?;
     }
     Ok(())
 }
 
-/// Enters the leaf of a portal, where it is left to enter and the portal may lead on.
+/// Enters the leaf that an exit enters, where it is left to enter and the exit may lead on.
 fn enter<'a, S: RowSource>(
     flow: &Flow<'a>,
     source: &mut S,
     frame: &Frame<'a>,
     found: &BitRow,
-    portal: u64,
+    exit: &Exit,
     scratch: &mut Scratch,
 ) -> Result<(), AllocError>
-    requires portal { portal < length flow.now.world.now.portals }
+    requires exit { IsExitOf flow.now.world.now.portals exit.now }
+    requires within { exit.now.to < length (numbered_leaves flow.now.world.now.tree) }
     requires of_world { AreOfWorld flow.now.world.now (S.world source.old) (pairs_of flow.now) frame.now found.now }
     requires cone { length scratch.old.cone ≡ length (numbered_leaves flow.now.world.now.tree) }
     requires left { AreLeft frame.now scratch.old.cone scratch.old.left }
     requires words { HaveAllNew frame.now.mask found.now scratch.old.words.items }
     ensures left { OnOk result (AreLeft frame.now scratch.new.cone scratch.new.left) }
-    ensures entered { OnOk result (AreEntered (LeadsInto flow.now.world.now flow.now.first frame.now found.now (portal ∷ [])) scratch.old.cone scratch.new.cone scratch.old.due.items scratch.new.due.items) }
-    ensures words { OnOk result (scratch.new.words.items ≡ scratch.old.words.items) }
+    ensures entered { OnOk result (AreEntered (LeadsInto flow.now.world.now flow.now.first frame.now found.now (exit.now.portal ∷ [])) scratch.old.cone scratch.new.cone scratch.old.due.items scratch.new.due.items) }
+    ensures words { OnOk result (HaveAllNew frame.now.mask found.now scratch.new.words.items) }
     ensures on { S.goes_on source.old source.new }
 {
-    let to = flow.world.to(portal);
-    if !scratch.left.get(to) {
+    if !scratch.left.get(exit.to) {
         return Ok(());
     }
-    let words = &scratch.words;
-    if !may_lead_on(flow, source, frame, portal, found, words) {
+    let words = &mut scratch.words;
+    if !exit_may_lead_on(flow, source, frame, exit, found, words) {
         return Ok(());
     }
-    scratch.cone.set(to);
-    take_one(&mut scratch.left, to);
-    scratch.due.push(to)?;
+    scratch.cone.set(exit.to);
+    take_one(&mut scratch.left, exit.to);
+    scratch.due.push(exit.to)?;
     Ok(())
 }

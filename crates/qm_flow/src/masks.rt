@@ -1,6 +1,7 @@
 //! Rows of a flow, word by word.
 
 ghost use Rattle.std.specs.Prelude.{◌≡◌, ◌↔◌, ◌⊎◌, ◌*◌, ◌<◌, true, false, length, slice_set, OnOk};
+ghost use Rattle.std.specs.List.Sorted.{IsPermutation};
 ghost use Rattle.qm_lists.specs.Unseen.{HasUnseen};
 ghost use Rattle.qm_lists.specs.Word.{IsWord};
 ghost use Rattle.qm_lists.specs.WorkList.{IsIn};
@@ -107,31 +108,34 @@ fn word_with(row: &BitRow, place: u64, k: u64) -> u64
     }
 }
 
-/// Whether a portal may show a leaf that the mask has, and that was not found. All words that have such a leaf are listed. Of a
-/// barred portal no word is read.
+/// Whether a portal may show a leaf that the mask has, and that was not found. All words that have such a leaf are listed. The one
+/// that shows it changes places with the first, so that the next portal asks it first. Of a barred portal no word is read.
 pub(crate) fn may_show<S: RowSource>(
     own: &OwnRows,
     source: &mut S,
     portal: u64,
     mask: &BitRow,
     found: &BitRow,
-    words: &[u64],
+    words: &mut [u64],
 ) -> bool
     requires portal { portal < length own.now }
     requires own { AreOwnRows (S.world source.old) own.now }
     requires wide { length mask.now ≡ length (numbered_leaves (S.world source.old).tree) }
     requires found { length found.now ≡ length mask.now }
-    requires words { HaveAllNew mask.now found.now words.now }
+    requires words { HaveAllNew mask.now found.now words.old }
     ensures none { result ≡ false → ShowsNothingNew (MustHave (S.world source.old) own.now portal) mask.now found.now }
+    ensures words { IsPermutation words.old words.new }
     ensures on { S.goes_on source.old source.new }
 {
     if own.is_barred(portal) {
         return false;
     }
-    for k in words {
-        let left = mask.word(*k) & !found.word(*k);
-        let word = own.word(source, portal, *k);
+    for i in 0..words.len() {
+        let k = words[i];
+        let left = mask.word(k) & !found.word(k);
+        let word = own.word(source, portal, k);
         if word & left != 0 {
+            words.swap(0, i);
             return true;
         }
     }

@@ -81,7 +81,7 @@ fn own_may_show<'a, S: RowSource>(
     };
     do_what_is_due(flow, source, portal, due, found, room)?;
     list_new(&frame.mask, found, &mut room.scratch.words)?;
-    let words = &room.scratch.words;
+    let words = &mut room.scratch.words;
     let own = &flow.own;
     let may = may_show(own, source, portal, &frame.mask, found, words);
     Ok(may)

@@ -5,11 +5,11 @@ use Rattle.std.proofs.Math.IntN.{*ℤ_comm}
 use Rattle.std.proofs.lemmas.List.Elements.{All-from_get_or, All-contains}
 use Rattle.qm_lists.proofs.Pairs.{All-from_contains}
 use Rattle.qm_numbers.proofs.IntegerProducts.{linear, *ℤ_zero, *ℤ_one}
-use Rattle.qm_numbers.proofs.Signs.{side_test, product_not_negative, product_not_positive, times_at_most, cancel_at_most, by_least}
+use Rattle.qm_numbers.proofs.Signs.{side_test, product_not_negative, times_at_most, cancel_at_most, by_least}
 use Rattle.qm_space.specs.Point.{Point, point_sum, point_times}
 use Rattle.qm_space.specs.Plane.{Plane, value, IsOn, IsInFront}
-use Rattle.qm_space.specs.Cuboid.{Stretch, Cuboid, IsInStretch, IsInCuboid, least_value, greatest_product, greatest_value}
-use Rattle.qm_space.proofs.Cuboids.{least_value_bound, greatest_value_bound}
+use Rattle.qm_space.specs.Cuboid.{Stretch, Cuboid, IsInStretch, IsInCuboid, greatest_product, greatest_value}
+use Rattle.qm_space.proofs.Cuboids.{greatest_value_bound}
 use Rattle.qm_space.proofs.Planes.{value_sum, value_times}
 use Rattle.qm_convex.specs.Winding.{Winding, edge_at, IsConvex, IsInRegion}
 use Rattle.qm_convex.specs.Sides.{HasCornerInFront}
@@ -18,7 +18,8 @@ use Rattle.qm_convex.proofs.Central.{middle, middle_in_region, some_in_front}
 use Rattle.qm_convex.proofs.Within.{none_in_front_by_greatest}
 use Rattle.qm_wind.proofs.SidesOfCorners.{none_in_front}
 use Rattle.qm_separators.specs.inner.Found.{HasCornersBeyond}
-use Rattle.qm_narrow.specs.inner.Filled.{HasAllOf, ReachesBeyond}
+use Rattle.qm_extents.specs.Filled.{HasAllOf}
+use Rattle.qm_narrow.specs.inner.Beyond.{ReachesBeyond}
 
 -- ---- the point of a cuboid at which a plane has its greatest value
 
@@ -141,22 +142,3 @@ module _ (v : Winding) (c : Cuboid) (convex : IsConvex v) (within : LiesWithin v
 
   pub reach_by_beyond : (planes : List Plane) → HasCornersBeyond v planes → ReachesBeyond c planes
   reach_by_beyond planes beyond = All-from_contains (λ g. pos 0 <ℤ greatest_value g c) planes (λ h there. reach_by_front h (beyond h there))
-
--- ---- a winding has all of a cuboid, by values
-
-module _ (v : Winding) (c : Cuboid) where
-  pub all_by_values : pos 0 ≤ℤ least_value v.plane c → greatest_value v.plane c ≤ℤ pos 0 → All (λ h. pos 0 ≤ℤ least_value h c) v.edges → HasAllOf v c
-  all_by_values least greatest edges = record {
-    on = λ p weight there.
-        let a = least_value_bound v.plane c p there in
-        let b = greatest_value_bound v.plane c p there in
-        let low = product_not_negative (least_value v.plane c) p.w least weight in
-        let high = product_not_positive p.w (greatest_value v.plane c) weight greatest in
-        let turned = *ℤ_comm p.w (greatest_value v.plane c) in
-        omega (arith, linear);
-    inside = λ p weight there i d below.
-        let h = get_or v.edges i d in
-        let a = least_value_bound h c p there in
-        let low = product_not_negative (least_value h c) p.w (edges i d below) weight in
-        omega (arith, linear);
-  }

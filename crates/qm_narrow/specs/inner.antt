@@ -8,5 +8,5 @@ pub mod FoundPlanes
 pub mod LastCut
 pub mod Beam
 pub mod WholeCandidates
-pub mod Filled
+pub mod Beyond
 pub mod Lowest

@@ -1,11 +1,12 @@
-use Rattle.std.proofs.Common.{◌≡◌, true, false, [], List, Bool, ℕ, length, set, sym, ap, ◌∙◌, subst, arith}
+use Rattle.std.proofs.Common.{◌≡◌, true, false, [], List, Bool, ℕ, length, map, set, sym, ap, ◌∙◌, subst, arith}
 use Rattle.std.proofs.lemmas.List.{nil_from_length, length-replicate}
 use Rattle.qm_lists.proofs.WorkLists.{place_within}
 use Rattle.qm_lists.specs.WorkList.{IsIn}
+use Rattle.qm_portal.specs.declared.exit.Exit.{Exit}
 use Rattle.qm_chains.specs.inner.Cone.{IsConeSoFar}
 use Rattle.qm_chains.specs.inner.Narrowing.{IsNarrowed}
 use Rattle.qm_chains.proofs.LeftToEnter.{left_begins}
-use Rattle.qm_chains.proofs.Entering.{cone_begins, leaf_in, leaving_within, cone_more, cone_less, cone_ends}
+use Rattle.qm_chains.proofs.Entering.{cone_begins, leaf_in, cone_more, cone_less, cone_ends}
 use Rattle.qm_flow.specs.inner.FlowPairs.{pairs_of}
 use Rattle.qm_flow.proofs.LastElements.{pushed_to}
 use Rattle.qm_chains.specs.inner.Frame.{Frame}
@@ -32,14 +33,17 @@ loop-leaf-init g c =
 pub list_new-requires : goal.list_new-requires
 list_new-requires g c = c.requires.of_world.wide.found ∙ sym (ap (λ (f : Frame). length f.mask) c.frame.view_is ∙ c.requires.of_world.wide.mask)
 
-pub leaving-portals-requires : goal.leaving-portals-requires
-leaving-portals-requires g c =
+pub exits-exits-requires : goal.exits-exits-requires
+exits-exits-requires g c =
     let inside = place_within c.loop-leaf.scratch.cone c.in-Some.leaf (leaf_in c.args.flow.now.world.now c.args.flow.now.first c.args.frame.now c.args.found.now c.args.entered c.loop-leaf.scratch.cone c.loop-leaf.scratch.cone c.loop-leaf.scratch.due.items c.pop.new.self.items c.pop.new.self.items c.in-Some.leaf c.in-Some.ensures.items c.loop-leaf.invariant.so_far) in
     let wide = c.loop-leaf.invariant.so_far.wide in
     omega (arith, inside, wide)
 
-pub go_on-requires-clause-portals : goal.go_on-requires-clause-portals
-go_on-requires-clause-portals g c = leaving_within c.args.flow.now.world.now c.args.flow.now.first c.args.frame.now c.args.found.now c.in-Some.leaf c.leaving-portals.result.now c.leaving-portals.ensures
+pub go_on-requires-clause-exits : goal.go_on-requires-clause-exits
+go_on-requires-clause-exits g c = c.exits-exits.ensures.each
+
+pub go_on-requires-clause-within : goal.go_on-requires-clause-within
+go_on-requires-clause-within g c = c.exits-exits.ensures.within
 
 pub go_on-requires-clause-of_world : goal.go_on-requires-clause-of_world
 go_on-requires-clause-of_world g c = of_world_later c.args.flow.now.world.now (g.S.RowSource.world c.args.source.now) (g.S.RowSource.world c.loop-leaf.source) (pairs_of c.args.flow.now) c.args.frame.now c.args.found.now
@@ -48,16 +52,16 @@ go_on-requires-clause-of_world g c = of_world_later c.args.flow.now.world.now (g
 pub loop-leaf-preserved : goal.loop-leaf-preserved
 loop-leaf-preserved g c = record {
   so_far = cone_more c.args.flow.now.world.now c.args.flow.now.first c.args.frame.now c.args.found.now c.args.entered c.loop-leaf.scratch.cone c.go_on.new.scratch.cone c.loop-leaf.scratch.due.items c.pop.new.self.items c.go_on.new.scratch.due.items c.in-Some.leaf c.in-Some.ensures.items c.loop-leaf.invariant.so_far
-      c.leaving-portals.result.now c.leaving-portals.ensures c.in_ok-go_on.ensures.entered;
+      (map (λ (exit : Exit). exit.portal) c.exits-exits.result.now) c.exits-exits.ensures.leaving c.in_ok-go_on.ensures.entered;
   left = c.in_ok-go_on.ensures.left;
-  words = subst (HaveAllNew c.args.frame.now.mask c.args.found.now) (sym c.in_ok-go_on.ensures.words) c.loop-leaf.invariant.words;
+  words = c.in_ok-go_on.ensures.words;
   on = g.met.S.RowSource.goes_on_in_turn c.args.source.now c.loop-leaf.source c.go_on.new.source c.loop-leaf.invariant.on c.go_on.ensures.on;
 }
 
 pub loop-leaf-smaller : goal.loop-leaf-smaller
 loop-leaf-smaller g c =
     cone_less c.args.flow.now.world.now c.args.flow.now.first c.args.frame.now c.args.found.now c.args.entered c.loop-leaf.scratch.cone c.go_on.new.scratch.cone c.loop-leaf.scratch.due.items c.pop.new.self.items c.go_on.new.scratch.due.items c.in-Some.leaf c.in-Some.ensures.items c.loop-leaf.invariant.so_far
-    c.leaving-portals.result.now c.leaving-portals.ensures c.in_ok-go_on.ensures.entered
+    (map (λ (exit : Exit). exit.portal) c.exits-exits.result.now) c.exits-exits.ensures.leaving c.in_ok-go_on.ensures.entered
 
 pub returns-clause-cone : goal.returns-clause-cone
 returns-clause-cone g c =

@@ -7,7 +7,7 @@ use Rattle.qm_chains.proofs.Entering.{none_entered, one_entered, into_its_leaf, 
 use Rattle.qm_flow.proofs.cone.enter.Goals as goal
 
 pub get-requires : goal.get-requires
-get-requires g c = let within = c.to-to.ensures.within in let wide = c.requires.cone in let left = c.requires.left.wide in omega (arith, within, wide, left)
+get-requires g c = let within = c.requires.within in let wide = c.requires.cone in let left = c.requires.left.wide in omega (arith, within, wide, left)
 
 -- the leaf is not left to enter: the cone has it, if the chain may enter it
 
@@ -17,10 +17,11 @@ returns-then-not-get-clause-entered g c =
     let first = c.args.flow.now.first in
     let frame = c.args.frame.now in
     let found = c.args.found.now in
-    let q = c.to-to.ensures.value in
-    none_entered (LeadsInto world first frame found (c.args.portal ∷ [])) c.args.scratch.now.cone c.args.scratch.now.due.items
+    let exit = c.args.exit.now in
+    let its = c.requires.exit in
+    none_entered (LeadsInto world first frame found (exit.portal ∷ [])) c.args.scratch.now.cone c.args.scratch.now.due.items
     (λ to leads.
-    let here = q.2 ∙ into_its_leaf world first frame found c.args.portal q.0 q.1 to leads in
+    let here = its.to_is ∙ into_its_leaf world first frame found exit.portal its.portal its.portal_is to leads in
     let may = subst (MayEnter frame) leads.to_is leads.leads.may_enter in
     ⊎_elim
     (λ is. is)
@@ -30,15 +31,16 @@ returns-then-not-get-clause-entered g c =
 pub returns-then-not-get-clause-on : goal.returns-then-not-get-clause-on
 returns-then-not-get-clause-on g c = g.met.S.RowSource.goes_on_itself c.args.source.now
 
-pub returns-then-not-may_lead_on-clause-entered : goal.returns-then-not-may_lead_on-clause-entered
-returns-then-not-may_lead_on-clause-entered g c =
+pub returns-then-not-exit_may_lead_on-clause-entered : goal.returns-then-not-exit_may_lead_on-clause-entered
+returns-then-not-exit_may_lead_on-clause-entered g c =
     let world = c.args.flow.now.world.now in
     let first = c.args.flow.now.first in
     let frame = c.args.frame.now in
     let found = c.args.found.now in
-    let q = c.to-to.ensures.value in
-    none_entered (LeadsInto world first frame found (c.args.portal ∷ [])) c.args.scratch.now.cone c.args.scratch.now.due.items
-    (λ to leads. absurd (c.may_lead_on.ensures.none c.if-not-may_lead_on.true q.0 q.1 (leads_over world first frame found c.args.portal q.0 q.1 to leads)))
+    let exit = c.args.exit.now in
+    let its = c.requires.exit in
+    none_entered (LeadsInto world first frame found (exit.portal ∷ [])) c.args.scratch.now.cone c.args.scratch.now.due.items
+    (λ to leads. absurd (c.exit_may_lead_on.ensures.none c.if-not-exit_may_lead_on.true its.portal its.portal_is (leads_over world first frame found exit.portal its.portal its.portal_is to leads)))
 
 pub returns-clause-entered : goal.returns-clause-entered
 returns-clause-entered g c =
@@ -46,18 +48,19 @@ returns-clause-entered g c =
     let first = c.args.flow.now.first in
     let frame = c.args.frame.now in
     let found = c.args.found.now in
-    let q = c.to-to.ensures.value in
-    let within = c.to-to.ensures.within in
+    let exit = c.args.exit.now in
+    let its = c.requires.exit in
+    let within = c.requires.within in
     let wide = c.requires.cone in
-    one_entered (LeadsInto world first frame found (c.args.portal ∷ [])) c.args.scratch.now.cone c.set.new.self c.args.scratch.now.due.items c.push.new.self.items c.to-to.result
-    (omega (arith, within, wide)) (clear_if_not_in c.args.scratch.now.cone c.to-to.result (c.requires.left.apart c.to-to.result (sym c.get.ensures ∙ c.if-not-get.false))) c.set.ensures c.in_ok-push.ensures.items
-    (λ n leads. q.2 ∙ into_its_leaf world first frame found c.args.portal q.0 q.1 n leads)
+    one_entered (LeadsInto world first frame found (exit.portal ∷ [])) c.args.scratch.now.cone c.set.new.self c.args.scratch.now.due.items c.push.new.self.items c.args.exit.now.to
+    (omega (arith, within, wide)) (clear_if_not_in c.args.scratch.now.cone c.args.exit.now.to (c.requires.left.apart c.args.exit.now.to (sym c.get.ensures ∙ c.if-not-get.false))) c.set.ensures c.in_ok-push.ensures.items
+    (λ n leads. its.to_is ∙ into_its_leaf world first frame found exit.portal its.portal its.portal_is n leads)
 
 pub set-requires : goal.set-requires
-set-requires g c = let within = c.to-to.ensures.within in let wide = c.requires.cone in omega (arith, within, wide)
+set-requires g c = let within = c.requires.within in let wide = c.requires.cone in omega (arith, within, wide)
 
 pub returns-clause-left : goal.returns-clause-left
 returns-clause-left g c =
-    let within = c.to-to.ensures.within in
+    let within = c.requires.within in
     let wide = c.requires.cone in
-    left_fewer c.args.frame.now c.to-to.result c.args.scratch.now.cone c.set.new.self c.args.scratch.now.left c.take_one.new.row (omega (arith, within, wide)) c.set.ensures c.take_one.ensures c.requires.left
+    left_fewer c.args.frame.now c.args.exit.now.to c.args.scratch.now.cone c.set.new.self c.args.scratch.now.left c.take_one.new.row (omega (arith, within, wide)) c.set.ensures c.take_one.ensures c.requires.left
