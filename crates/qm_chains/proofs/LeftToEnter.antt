@@ -1,5 +1,5 @@
 -- The leaves that a flood of a cone has left to enter: all that the chain may enter at first, then one fewer with each leaf.
-use Rattle.std.proofs.Common.{◌≡◌, ◌⊎◌, inl, inr, ⊎_elim, ◌↔◌, ℕ, ◌+◌, ◌*◌, ◌/◌, ◌%◌, ◌^◌, ◌<◌, Bool, true, false, not, ◌&&◌, ◌||◌, List, length, get_or, set, replicate, bit_or, w64, refl, sym, ap, ◌∙◌, subst, arith}
+use Rattle.std.proofs.Common.{◌≡◌, inl, inr, ⊎_elim, ℕ, ◌+◌, ◌*◌, ◌/◌, ◌%◌, ◌^◌, ◌<◌, Bool, true, false, not, ◌&&◌, ◌||◌, List, length, get_or, set, replicate, w64, refl, sym, ap, ◌∙◌, subst, arith}
 use Rattle.std.specs.Int.{bit_not}
 use Rattle.std.proofs.lemmas.Bool.{cases_eq}
 use Rattle.std.proofs.lemmas.List.{length-set, length-replicate}
@@ -8,10 +8,10 @@ use Rattle.qm_lists.specs.WorkList.{IsIn}
 use Rattle.qm_lists.proofs.Bits.{has_bit-or, has_bit-not, has_bit-zero, has_bit-set_same, has_bit-set_other}
 use Rattle.qm_lists.proofs.Cases.{both_yes}
 use Rattle.qm_chains.specs.inner.Cone.{AreLeft}
-use Rattle.qm_chains.specs.inner.Frame.{Frame, MayEnter}
+use Rattle.qm_chains.specs.inner.Frame.{Frame}
 use Rattle.qm_chains.specs.inner.Narrowing.{IsNarrowed, IsWithout}
 use Rattle.qm_chains.proofs.Beginnings.{none_clear}
-use Rattle.qm_chains.proofs.TriedPortals.{gains_one, set_only}
+use Rattle.qm_chains.proofs.TriedPortals.{gains_one}
 
 -- ---- one bit of a row is cleared
 
