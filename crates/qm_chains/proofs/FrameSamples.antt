@@ -21,7 +21,8 @@ use Rattle.qm_segments.proofs.RoomRows.{are_touchings}
 use Rattle.qm_separators.specs.ChainState.{ChainState, first_state}
 use Rattle.qm_separators.specs.PortalSteps.{BeginsWith, StepsThrough, MeetsState, AreConvexPortals}
 use Rattle.qm_separators.proofs.PortalStepLaws.{are_convex, first_is_state, lets_segments_through, lets_pass}
-use Rattle.qm_chains.specs.inner.Cone.{AreLeft}
+use Rattle.qm_separators.proofs.StepsLead.{leads_on_or_blocks}
+use Rattle.qm_chains.specs.inner.Cone.{AreLeft, with_mask}
 use Rattle.qm_chains.specs.inner.Frame.{Frame, StopsAt, not_passed, blocked, MayEnter, IsNextTo, IsAwaited}
 use Rattle.qm_chains.specs.inner.Narrowing.{IsWithout}
 use Rattle.qm_chains.specs.inner.Wanted.{IsWanted}
@@ -38,12 +39,7 @@ frame = record {
 
 -- the same chain, where it may not show the last room
 abbrev shorter : Frame
-shorter = record {
-  state = first_state out.winding out.into;
-  untried = 1 ∷ 2 ∷ [];
-  met = true ∷ true ∷ false ∷ false ∷ [];
-  mask = false ∷ true ∷ true ∷ false ∷ [];
-}
+shorter = with_mask (false ∷ true ∷ true ∷ false ∷ []) frame
 
 not_in : {P : Type 0} → false ≡ true → P
 not_in is = absurd cc
@@ -122,7 +118,12 @@ not_stopped : StopsAt frame.state on → ⊥
 not_stopped (not_passed never) = never (lets_pass doors convex_doors frame.state line on (place (pos 64)) (place (pos 0)) met (2, omega arith, refl) second_through second_after)
 not_stopped (blocked is) = (lets_segments_through doors convex_doors).not_blocked line on frame.state (place (pos 64)) (place (pos 0)) met (2, omega arith, refl) second_through second_after is
 
--- behind the second door there is the last room alone
+-- so the step through it leads on, and what has to be ahead after it is no empty claim
+goes_on : (next : ChainState) × StepsThrough frame.state on next
+goes_on = ⊎_elim (λ leads. leads) (λ blocks. absurd (not_stopped (blocked blocks)))
+    (leads_on_or_blocks frame.state on.winding on.into begun.valid (convex_doors on (2, omega arith, refl)).0)
+
+-- behind the room that it enters there is the last room alone
 each_farther : (m j : ℕ) → Contains (3 ∷ []) j → IsNumberOf four_rooms m j → LiesFartherOn four_rooms seen_on (MayEnter frame) m
 each_farther m j there number = ⊎_elim
     (λ is. subst (LiesFartherOn four_rooms seen_on (MayEnter frame)) (same_number four_rooms 3 m 3 refl (subst (IsNumberOf four_rooms m) (sym is) number)) farther_last)
@@ -185,6 +186,7 @@ left = false ∷ false ∷ true ∷ true ∷ []
 abbrev fewer : List Bool
 fewer = false ∷ false ∷ false ∷ true ∷ []
 
+-- the chain is in the second room, and may still enter the third and the last one
 two_left : AreLeft frame (false ∷ true ∷ false ∷ false ∷ []) left
 two_left = record { wide = refl; all = each; apart = none }
   where
@@ -202,10 +204,11 @@ two_left = record { wide = refl; all = each; apart = none }
     none (suc (suc (suc zero))) in_left in_cone = not_in in_cone
     none (suc (suc (suc (suc n)))) in_left in_cone = not_in in_left
 
--- the third room is neither in the cone nor left
+-- with one fewer, the third room is neither in the cone nor left
 third_lost : AreLeft frame (false ∷ true ∷ false ∷ false ∷ []) fewer → ⊥
 third_lost are = ⊎_elim (λ is. not_in is) (λ is. not_in is) (are.all 2 may_enter_third)
 
+-- the rows differ in the third room alone
 without_third : IsWithout 2 left fewer
 without_third = record { same_length = refl; exactly = λ n. (kept n, keeps n) }
   where

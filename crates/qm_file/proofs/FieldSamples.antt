@@ -1,5 +1,5 @@
 -- Worked rows: what a call may answer of a field of four bytes, and what it may not.
-use Rattle.std.proofs.Common.{◌≡◌, ℕ, ℤ, negsuc, List, [], ◌∷◌, Ok, Err, refl}
+use Rattle.std.proofs.Common.{ℕ, negsuc, List, [], ◌∷◌, Ok, Err, refl}
 use Rattle.std.specs.Int.{w32}
 use Rattle.qm_formats.specs.Fields.{raw, signed, unsigned}
 use Rattle.qm_formats.specs.FileParts.{short}

@@ -1,2 +1,3 @@
 pub mod AddedBrushes
 pub mod EntityModels
+pub mod BoundSamples
