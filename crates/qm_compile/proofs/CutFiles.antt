@@ -1,5 +1,5 @@
 -- What has to be read of bytes shows of all of them which tree file they are, and which fault they have.
-use Rattle.std.proofs.Common.{◌≡◌, ◌<◌, ◌⊎◌, ℕ, ◌+◌, List, length, subst, inl, inr, arith}
+use Rattle.std.proofs.Common.{◌≡◌, ◌<◌, ◌≤◌, ◌⊎◌, ℕ, ◌+◌, List, length, subst, inl, inr, arith}
 use Rattle.std.proofs.lemmas.Bool.{cases_lt}
 use Rattle.std.proofs.lemmas.List.{take_all, length-take-le}
 use Rattle.qm_lists.specs.Limit.{up_to_one_past}
@@ -7,6 +7,11 @@ use Rattle.qm_formats.specs.FileParts.{FileFaultKind}
 use Rattle.qm_formats.specs.FileLayout.{file_limit, IsFileOf}
 use Rattle.qm_formats.specs.TreeFaults.{IsFaultOfFileBytes, too_many_bytes, in_part, behind_file}
 use Rattle.qm_formats.specs.TreeFile.{TreeFile}
+
+-- bytes that are no more than are read are read to their end
+pub all_are_read : (bytes : List ℕ) → length bytes ≤ file_limit → up_to_one_past file_limit bytes ≡ bytes
+unfolding up_to_one_past
+all_are_read bytes fits = take_all (file_limit + 1) bytes (omega (arith, fits))
 
 -- what is read of bytes is all of them, or it is too long, and so are they
 cut_or_long : (limit : ℕ) (bytes : List ℕ) → (up_to_one_past limit bytes ≡ bytes) ⊎ ((limit < length bytes) × (limit < length (up_to_one_past limit bytes)))

@@ -19,7 +19,7 @@ use Rattle.qm_compile.specs.declared.tree_reading.NoTree.{NoTree}
 use Rattle.qm_compile.specs.declared.tree_reading.NoTree.TheVariants.{Fault, Unread, Memory}
 use Rattle.qm_compile.specs.inner.FaultLine.{fault_at, IsTreeFaultLine}
 use Rattle.qm_compile.specs.inner.TreeRead.{IsLineOfFault, IsNoTreeOf, IsReadOfBytes, IsTreeRead}
-use Rattle.qm_compile.proofs.CutFiles.{file_of_cut, fault_of_cut}
+use Rattle.qm_compile.proofs.CutFiles.{all_are_read, file_of_cut, fault_of_cut}
 
 module _ (before : ShelfState) (tree_name read : List ℕ) (is_read : IsReadFrom before tree_name file_limit read) where
   file_held : (file : TreeFile) → IsFileOf read file → HoldsTreeFile before tree_name file
@@ -36,24 +36,27 @@ module _ (before : ShelfState) (tree_name read : List ℕ) (is_read : IsReadFrom
         is_file = is;
       })
 
-  fault_held : (kind : FileFaultKind) (place : ℕ) → IsFaultOfFileBytes read kind place → HoldsTreeFault before tree_name kind place
-  fault_held kind place is =
+  fault_held : AreBytes read → (kind : FileFaultKind) (place : ℕ) → IsFaultOfFileBytes read kind place → HoldsTreeFault before tree_name kind place
+  fault_held are kind place is =
       by_cases before.tells
       (λ tells. record {
         bytes = text_under before tree_name;
         is_held = λ _. refl;
+        are_bytes = λ fits. subst AreBytes (is_read tells ∙ all_are_read (text_under before tree_name) fits) are;
         is_fault = fault_of_cut (text_under before tree_name) kind place (subst (λ (bytes : List ℕ). IsFaultOfFileBytes bytes kind place) (is_read tells) is);
       })
       (λ silent. record {
         bytes = read;
         is_held = λ tells. absurd (let e : true ≡ false = sym tells ∙ silent in cc);
+        are_bytes = λ _. are;
         is_fault = is;
       })
 
   pub read_under : (after : ShelfState) → IsUntouched before after → (found : Result TreeFile NoTree) → IsReadOfBytes read found → IsTreeRead before after tree_name found
   read_under after untouched (Ok file) is = (file_held file is, untouched)
   read_under after untouched (Err (Fault line)) is =
-      (record { kind = is.kind; place = is.place; has_fault = fault_held is.kind is.place is.has_fault; is_line = is.is_line }, untouched)
+      let found = is.1 in
+      (record { kind = found.kind; place = found.place; has_fault = fault_held is.0 found.kind found.place found.has_fault; is_line = found.is_line }, untouched)
   read_under after untouched (Err Unread) is = absurd is
   read_under after untouched (Err Memory) is = untouched
 
@@ -82,6 +85,6 @@ module _ (bytes : List ℕ) (are : AreBytes bytes) where
   }
 
   pub fault_told : (fault : FileFault) → IsFaultOfFile fault (read_file bytes) → (none : NoTree) → IsNoTreeOf fault none → IsReadOfBytes bytes (Err none)
-  fault_told fault is (Fault line) told = fault_read (string_bytes line) fault is told
+  fault_told fault is (Fault line) told = (are, fault_read (string_bytes line) fault is told)
   fault_told fault is Unread never = absurd never
   fault_told fault is Memory told = tt

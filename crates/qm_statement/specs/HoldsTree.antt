@@ -1,6 +1,7 @@
-use Rattle.std.specs.Prelude.{◌≡◌, ℕ, IsTrue, List}
+use Rattle.std.specs.Prelude.{◌≡◌, ◌≤◌, ℕ, IsTrue, List, length}
 use Rattle.qm_surroundings.specs.ShelfState.{ShelfState, text_under}
-use Rattle.qm_formats.specs.FileLayout.{IsFileOf}
+use Rattle.qm_formats.specs.Fields.{AreBytes}
+use Rattle.qm_formats.specs.FileLayout.{file_limit, IsFileOf}
 use Rattle.qm_formats.specs.FileParts.{FileFaultKind}
 use Rattle.qm_formats.specs.TreeFaults.{IsFaultOfFileBytes}
 use Rattle.qm_formats.specs.TreeFile.{TreeFile}
@@ -14,8 +15,10 @@ pub record HoldsTreeFile (before : ShelfState) (tree_name : List ℕ) (file : Tr
   pub is_held : IsTrue before.tells → bytes ≡ text_under before tree_name
   pub is_file : IsFileOf bytes file
 
--- the bytes have this fault, the first in the order of the parts of a tree file, and this is its place
+-- the bytes, each below 256 where all are read, have this fault, the first in the order of the parts of a tree file, and this is its
+-- place
 pub record HoldsTreeFault (before : ShelfState) (tree_name : List ℕ) (kind : FileFaultKind) (place : ℕ) : Type 0 where
   pub bytes : List ℕ
   pub is_held : IsTrue before.tells → bytes ≡ text_under before tree_name
+  pub are_bytes : length bytes ≤ file_limit → AreBytes bytes
   pub is_fault : IsFaultOfFileBytes bytes kind place

@@ -1,6 +1,7 @@
 use Rattle.std.specs.Prelude.{◌≡◌, ℕ, List, Result, Ok, Err, OnOk, string_bytes}
 use Rattle.qm_surroundings.specs.ShelfState.{ShelfState}
 use Rattle.qm_surroundings.specs.ShelfChanges.{IsKept, FailedToRead}
+use Rattle.qm_formats.specs.Fields.{AreBytes}
 use Rattle.qm_formats.specs.FileLayout.{IsFileOf}
 use Rattle.qm_formats.specs.FileParts.{FileFaultKind}
 use Rattle.qm_formats.specs.TreeFaults.{IsFaultOfFileBytes}
@@ -33,7 +34,7 @@ IsNoTreeOf fault Memory = Unit {0}
 -- what is read in bytes
 abbrev pub IsReadOfBytes : List ℕ → Result TreeFile NoTree → Type 0
 IsReadOfBytes bytes (Ok file) = IsFileOf bytes file
-IsReadOfBytes bytes (Err (Fault line)) = IsLineOfFault (IsFaultOfFileBytes bytes) (string_bytes line)
+IsReadOfBytes bytes (Err (Fault line)) = AreBytes bytes × IsLineOfFault (IsFaultOfFileBytes bytes) (string_bytes line)
 IsReadOfBytes bytes (Err Unread) = ⊥
 IsReadOfBytes bytes (Err Memory) = Unit {0}
 
