@@ -10,7 +10,7 @@ pub list_new-requires : goal.list_new-requires
 list_new-requires g c = c.requires.of_world.wide.found ∙ sym (ap (λ (f : Frame). length f.mask) c.frame.view_is ∙ c.requires.of_world.wide.mask)
 
 pub may_lead_on-may-requires-clause-words : goal.may_lead_on-may-requires-clause-words
-may_lead_on-may-requires-clause-words g c = subst (HaveAllNew c.args.frame.now.mask c.args.found.now) (sym c.deref.ensures.value)
+may_lead_on-may-requires-clause-words g c = subst (HaveAllNew c.args.frame.now.mask c.args.found.now) (sym c.deref_mut.ensures.value)
     (subst (λ (mask : List Bool). HaveAllNew mask c.args.found.now c.list_new.new.words.items) (ap (λ (f : Frame). f.mask) c.frame.view_is) c.in_ok-list_new.ensures)
 
 pub may_lead_on-may-requires-clause-of_world : goal.may_lead_on-may-requires-clause-of_world

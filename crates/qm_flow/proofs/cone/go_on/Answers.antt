@@ -1,6 +1,8 @@
-use Rattle.std.proofs.Common.{[], ◌∷◌, ◌++◌, take, get_or, map, List, ℕ, ap, sym, ◌∙◌, subst}
+use Rattle.std.proofs.Common.{[], ◌∷◌, ◌++◌, ◌<◌, take, length, map, List, ℕ, ap, sym, ◌∙◌, subst}
 use Rattle.std.proofs.lemmas.List.{take_all, map_push}
 use Rattle.qm_lists.proofs.Places.{take-read}
+use Rattle.qm_contacts.specs.NumberedLeaves.{numbered_leaves}
+use Rattle.qm_portal.specs.Exits.{IsExitOf}
 use Rattle.qm_portal.specs.declared.exit.Exit.{Exit}
 use Rattle.qm_chains.specs.inner.Cone.{LeadsInto, AreEntered}
 use Rattle.qm_chains.proofs.Entering.{none_entered, then_entered, into_none, into_cases}
@@ -56,10 +58,10 @@ pub returns-clause-words : goal.returns-clause-words
 returns-clause-words g c = c.loop-exit.invariant.words
 
 pub enter-requires-clause-exit : goal.enter-requires-clause-exit
-enter-requires-clause-exit g c = ?
+enter-requires-clause-exit g c = subst (IsExitOf c.args.flow.now.world.now.portals) (sym c.exit-item.is) (c.requires.exits c.loop-exit.exit-index c.exit-item.result c.loop-exit-test.true)
 
 pub enter-requires-clause-within : goal.enter-requires-clause-within
-enter-requires-clause-within g c = ?
+enter-requires-clause-within g c = subst (λ (e : Exit). e.to < length (numbered_leaves c.args.flow.now.world.now.tree)) (sym c.exit-item.is) (c.requires.within c.loop-exit.exit-index c.exit-item.result c.loop-exit-test.true)
 
 pub returns-in_err-enter-clause-on : goal.returns-in_err-enter-clause-on
 returns-in_err-enter-clause-on g c = g.met.S.RowSource.goes_on_in_turn c.args.source.now c.loop-exit.source c.enter.new.source c.loop-exit.invariant.on c.enter.ensures.on
