@@ -7,8 +7,8 @@ ghost use Rattle.qm_extents.specs.Filled.{HasAllOf};
 use qm_geom::{Cuboid, Plane};
 use qm_wind::Winding;
 
-/// Whether values tell that a winding has all of a cuboid, its border included. Most portals have all of their own one: those
-/// whose edges are all across axes.
+/// Whether values tell that a winding has all of a cuboid, its border included. Most portals fill theirs: those with
+/// an axial plane and axial edges.
 pub(crate) fn fills(winding: &Winding, cuboid: &Cuboid) -> bool
     ensures { result ≡ true → HasAllOf winding.now cuboid.now }
 {

@@ -80,7 +80,7 @@ pub(crate) fn list_new(
     Ok(())
 }
 
-/// Whether a mask has a leaf beside this one that was not found.
+/// Whether a mask has a leaf other than this one that was not found.
 pub(crate) fn has_new_beside(mask: &BitRow, found: &BitRow, leaf: u64) -> bool
     requires leaf { leaf < length found.now }
     requires found { length found.now ≡ length mask.now }

@@ -3,9 +3,9 @@ use Rattle.qm_extents.specs.Extents.{IsExtentOf}
 use Rattle.qm_contacts.specs.Portals.{Portal}
 use Rattle.qm_portal.specs.declared.exit.Exit.{Exit}
 
--- Portals as those that leave a leaf.
+-- What is asked of a portal first.
 
--- the number of a portal, the leaf that it enters, and the extent of its pane
+-- the number of a portal, the leaf that it enters, and an extent of its pane
 pub record IsExitOf (portals : List Portal) (exit : Exit) : Type 0 where
   pub portal : Portal
   pub portal_is : slice_get portals exit.portal ≡ Some portal

@@ -42,8 +42,8 @@ AreBounded false world rows = (m n : ℕ) → IsIn (slice_index_or rows m []) n 
 -- What holds of the file. Each point inside the cube that is on no node plane is led to the contents that the map's brushes
 -- define there, or to a filled leaf. No entity of the map leaks. Exactly those leaves are filled that the outside reaches, if some
 -- entity stands in the open, and else none. Each line of sight has its last leaf in the row of its first, and its first in the row
--- of its last. No row has a leaf that portals do not lead to. The spans of each segment through the tree tell the contents that the
--- brushes define; and where the box of a hull, set at a point of a segment, meets an obstacle, some span through that hull is solid.
+-- of its last. No row has a leaf that portals do not lead to. The spans of each segment inside the cube tell the contents that the
+-- brushes define, but in filled leaves; and where the box of a hull, set at a point of a segment, meets an obstacle, some span through that hull is solid.
 -- The sections are those that the options ask for, and the form is the one in which maps are compiled.
 pub record TellsOfMap (map : MapFile) (options : Options) (file : TreeFile) : Type 0 where
   pub contents : (x : Point) → IsInCube x → IsOffNodePlanes file.tree.planes file.tree.shape x → HasRightContents map x (leaf_record_at file.tree.planes file.tree.shape x)
@@ -65,7 +65,7 @@ pub record TellsOfMap (map : MapFile) (options : Options) (file : TreeFile) : Ty
   pub form : HasCompiledForm file
 
 -- The text under MAP means a map, and OUT has exactly the bytes of a valid tree file of which all of this holds. If they are at
--- most 1 GiB, this is the file that is read in OUT.
+-- most 1 GiB, by a law of the format this is the file that is read in OUT.
 pub record IsHeadline (before after : ShelfState) (options : Options) (files : FileNames) : Type 0 where
   pub map : MapFile
   pub means : IsMapText (text_under before files.map_name) map

@@ -6,8 +6,8 @@ use Rattle.qm_formats.specs.FileParts.{FileFaultKind}
 use Rattle.qm_formats.specs.TreeFaults.{IsFaultOfFileBytes}
 use Rattle.qm_formats.specs.TreeFile.{TreeFile}
 
--- What TREE held: a tree file, or bytes with a first fault, and never both. Where the shelf tells what it holds, the bytes are
--- those that it held.
+-- What TREE held: a tree file, or bytes with a first fault. Where the shelf tells what it holds, the bytes are those that it held,
+-- and so it is never both.
 
 -- the bytes are those of a valid tree file, and no more than are read
 pub record HoldsTreeFile (before : ShelfState) (tree_name : List ℕ) (file : TreeFile) : Type 0 where

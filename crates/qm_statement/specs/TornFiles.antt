@@ -17,10 +17,10 @@ use Rattle.qm_statement.specs.Output.{Output}
 use Rattle.qm_statement.specs.UpgradeComesOf.{IsUpgradeDue}
 
 -- No tree file or listing is taken for whole that was cut off. Whatever the end of `compile` or `upgrade`, what it writes is as
--- it was, is whole, or is refused by who reads it. Of `format` this says nothing, since the beginning of a text can be a map.
+-- it was, is whole, or is refused when it is read. Of `format` this says nothing, since the beginning of a text can be a map.
 
--- only some of the first bytes of a tree file are there: their first fault is that they are too short, where they end, or that
--- they are more than a file may have that is read
+-- bytes that are refused in place of a tree file: their first fault is that they are too short, where they end, or that they are
+-- more than are read
 abbrev pub IsTreeRefused : List ℕ → List ℕ → Type 0
 IsTreeRefused bytes part = IsFaultOfFileBytes part short (length part) ⊎ IsFaultOfFileBytes part too_long file_limit
 

@@ -25,7 +25,7 @@ pub record IsTry (world : World) (now : List (List Bool)) (pairs : Pairs) (frame
   pub tried : (ceilings : List (List Bool)) → LieWithin now ceilings → LieWithinPairs (IsInCeiling ceilings) pairs.own →
       EndsChain world (IsInCeiling ceilings) pairs.first (put_back number frame) → IsTried world (IsInCeiling ceilings) pairs.first frame number old new child
 
--- a try with this mask for the next frame, over whichever ceilings the row of the portal has narrowed it
+-- for all ceilings over which the row of the portal narrows the mask of the frame to this one, the portal is tried
 abbrev pub TriesBy : World → Pairs → Frame → ℕ → List Bool → List Bool → List Bool → Option Frame → Type 0
 TriesBy world pairs frame number mask old new child = (now : List (List Bool)) →
     IsNarrowed (MustHave world pairs.own number) (CanHave (ceiling_of now number) pairs.own number) frame.mask mask → IsTry world now pairs frame number old new child
