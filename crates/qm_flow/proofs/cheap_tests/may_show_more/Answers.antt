@@ -1,4 +1,4 @@
-use Rattle.std.proofs.Common.{◌≡◌, List, Bool, length, ap, sym, ◌∙◌, subst, arith}
+use Rattle.std.proofs.Common.{List, Bool, length, ap, sym, ◌∙◌, subst, arith}
 use Rattle.qm_contacts.specs.NumberedLeaves.{numbered_leaves}
 use Rattle.qm_contacts.specs.World.{World}
 use Rattle.qm_chains.specs.inner.Frame.{Frame}
