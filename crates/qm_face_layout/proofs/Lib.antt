@@ -2,6 +2,7 @@ pub mod ExactFaces
 pub mod ValidFaces
 pub mod FaceFaults
 pub mod NumberedCorners
+pub mod ToldFaces
 pub mod TurnedFaces
 pub mod Walls
 pub mod WrittenFaces

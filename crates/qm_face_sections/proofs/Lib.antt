@@ -1,3 +1,3 @@
 pub mod FaceSizes
 pub mod MapSurfaces
-pub mod ReadFaces
+pub mod ValidFacesOfMap

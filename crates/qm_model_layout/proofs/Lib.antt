@@ -1,6 +1,7 @@
 pub mod ExactModels
 pub mod KeptModels
 pub mod WholeSections
+pub mod ToldModels
 pub mod ValidModels
 pub mod WrittenModels
 pub mod AscendingLeaves

@@ -2,4 +2,4 @@ pub mod WrittenBoxes
 pub mod EachModel
 pub mod WrittenLeaves
 pub mod ModelSizes
-pub mod ReadModels
+pub mod ValidModelsOfMap

@@ -3,10 +3,12 @@ use Rattle.std.proofs.Common.{◌≡◌, ℕ, Bool, true, false, cond, eqb, ◌&
 use Rattle.std.specs.Prelude.{is_none, MatchOption}
 use Rattle.std.proofs.lemmas.Bool.{and_parts, and_from, eq-eqb, eqb-true}
 use Rattle.qm_formats.specs.Layout.{Decoded, got, bad}
-use Rattle.qm_formats.specs.Fields.{AreBytes}
+use Rattle.qm_formats.specs.Fields.{AreBytes, are_bytes}
 use Rattle.qm_formats.specs.FileParts.{FileFaultKind}
 use Rattle.qm_formats.specs.TreeFile.{Section, TreeFile}
 use Rattle.qm_formats.specs.FileLayout.{read_file, IsFileOf}
+use Rattle.qm_formats.proofs.ExactFields.{are_bytes-from, bytes-are}
+use Rattle.qm_formats.proofs.FileBytes.{bytes_of_file}
 use Rattle.qm_formats.proofs.WholeFile.{read_file_found, read_file_again}
 use Rattle.qm_plain.specs.PlainFile.{IsPlainFile, ArePlainBytes, is_plain, plain_of, read_plain}
 
@@ -73,3 +75,18 @@ module _ (bound : ℕ) (bytes : List ℕ) (file : TreeFile) where
 pub plain_means : (bound : ℕ) (bytes : List ℕ) (answer : Option TreeFile) → AreBytes bytes → answer ≡ read_plain bound bytes → MatchOption answer ((file : TreeFile) → ArePlainBytes bound bytes file → ⊥) (ArePlainBytes bound bytes)
 plain_means bound bytes None are is = λ file plain. absurd (let e : ◌≡◌ {A = Option TreeFile} None (Some file) = is ∙ plain_again bound bytes file plain in cc)
 plain_means bound bytes (Some file) are is = plain_found bound bytes file are (sym is)
+
+-- ---- of every list it can be told of which plain file it has the bytes, if of any
+
+by_bytes : (bound : ℕ) (bytes : List ℕ) (test : Bool) → are_bytes bytes ≡ test → (found : Option TreeFile) × MatchOption found ((file : TreeFile) → ArePlainBytes bound bytes file → ⊥) (ArePlainBytes bound bytes)
+by_bytes bound bytes true are = (read_plain bound bytes, plain_means bound bytes (read_plain bound bytes) (bytes-are bytes are) refl)
+by_bytes bound bytes false not = (
+  None,
+  λ file plain.
+      let are = bytes_of_file bytes file (record { valid = plain.is_valid; bytes_are = plain.bytes_are; fits = plain.fits }) in
+      let both : false ≡ true = sym not ∙ are_bytes-from bytes are in
+      absurd cc,
+)
+
+pub plain_or_not : (bound : ℕ) (bytes : List ℕ) → (found : Option TreeFile) × MatchOption found ((file : TreeFile) → ArePlainBytes bound bytes file → ⊥) (ArePlainBytes bound bytes)
+plain_or_not bound bytes = by_bytes bound bytes (are_bytes bytes) refl

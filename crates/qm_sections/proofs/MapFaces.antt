@@ -23,7 +23,7 @@ use Rattle.qm_face_sections.specs.FaceBytes.{AreBytesOfFaces}
 use Rattle.qm_face_sections.specs.FaceRecords.{AreRecordsOf, HasSmallNumbers}
 use Rattle.qm_face_sections.specs.MapFaces.{AreFacesOfMap}
 use Rattle.qm_face_sections.proofs.MapSurfaces.{gives_in_book, surface_of_map}
-use Rattle.qm_face_sections.proofs.ReadFaces.{bytes_of_faces}
+use Rattle.qm_face_sections.proofs.ValidFacesOfMap.{bytes_of_faces}
 use Rattle.qm_face_records.specs.PiecesInBook.{AreWithinContacts}
 use Rattle.qm_sections.specs.inner.SmallPieces.{IsSmallPiece}
 
@@ -71,6 +71,6 @@ module _ (map : MapFile) (tree : Tree) (book : List Plane) (surface : HasSurface
           are_records = records_in_tree;
         }
 
-        -- and their bytes are read again
+        -- and these are their bytes
         pub bytes_of_map : length tree.planes < 2 ^ 32 → All IsSmallPiece pieces → (bytes : List ℕ) → bytes ≡ faces_bytes faces → AreBytesOfFaces tree faces bytes
         bytes_of_map few small bytes exactly = bytes_of_faces map tree few faces bytes faces_of_map (small_records tree.planes world_extent pieces faces records_in_tree small) exactly

@@ -26,10 +26,10 @@ returns c =
     let small = subst (All IsSmallPiece) c.deref.ensures.value c.pieces_fit.ensures in
     let records = subst (λ (some : List FacePiece). AreRecordsOf its.book world_extent some written.0) c.deref-2.ensures.value written.1 in
     let faces = faces_of_map map tree its.book c.requires.surface parts.entered its.list parts.solids pieces cut.cover parts.is_book its.contacts parts.are_contacts cut.pieces written.0 records in
-    let read_again = bytes_of_map map tree its.book c.requires.surface parts.entered its.list parts.solids pieces cut.cover parts.is_book its.contacts parts.are_contacts cut.pieces written.0 records
+    let own_bytes = bytes_of_map map tree its.book c.requires.surface parts.entered its.list parts.solids pieces cut.cover parts.is_book its.contacts parts.are_contacts cut.pieces written.0 records
     c.planes_fit.ensures small c.in_ok-bytes.bytes.items written.2 in
     record {
-      are_faces = record { kind_is = made.kind; faces = written.0; are_faces = faces; bytes_are = rw made.bytes read_again };
+      are_faces = record { kind_is = made.kind; faces = written.0; are_faces = faces; bytes_are = rw made.bytes own_bytes };
       length_fits = rw made.bytes made.length_fits;
       are_bytes = rw made.bytes made.are_bytes;
     }

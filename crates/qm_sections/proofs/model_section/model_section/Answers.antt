@@ -1,6 +1,6 @@
 use Rattle.std.proofs.Common.{ap, ◌∙◌}
 use Rattle.qm_model_layout.specs.ModelLayout.{models_bytes}
-use Rattle.qm_model_sections.proofs.ReadModels.{bytes_of_models}
+use Rattle.qm_model_sections.proofs.ValidModelsOfMap.{bytes_of_models}
 use Rattle.qm_sections.proofs.model_section.model_section.Goals as goal
 
 pub returns : goal.returns
@@ -11,9 +11,9 @@ returns c =
     let models = c.in_ok-models.models.items in
     let bytes = c.in_ok-bytes.bytes.items in
     let exactly = c.in_ok-bytes.ensures.exact ∙ ap models_bytes c.deref.ensures.value in
-    let read_again = bytes_of_models map world c.counts_fit.ensures.entities c.counts_fit.ensures.leaves models bytes c.in_ok-models.ensures exactly made.are_bytes in
+    let own_bytes = bytes_of_models map world c.counts_fit.ensures.entities c.counts_fit.ensures.leaves models bytes c.in_ok-models.ensures exactly in
     record {
-      are_models = record { kind_is = made.kind; models = models; are_models = c.in_ok-models.ensures; bytes_are = rw made.bytes read_again };
+      are_models = record { kind_is = made.kind; models = models; are_models = c.in_ok-models.ensures; bytes_are = rw made.bytes own_bytes };
       length_fits = rw made.bytes made.length_fits;
       are_bytes = rw made.bytes made.are_bytes;
     }

@@ -1,4 +1,4 @@
--- The bytes of a map's brush models are read again.
+-- The brush models of a map can stand in a section, where their bytes are not too long.
 use Rattle.std.proofs.Common.{◌≡◌, ◌<◌, ◌≤◌, ℕ, ◌^◌, List, [], ◌∷◌, ◌++◌, All, length, ap, ◌∙◌, subst, length-append, arith}
 use Rattle.std.specs.Prelude.{map as mapped}
 use Rattle.std.specs.Int.{w32}
@@ -10,17 +10,15 @@ use Rattle.qm_partition.specs.Tree.{Tree}
 use Rattle.qm_partition.specs.Counting.{leaves_of}
 use Rattle.qm_contacts.specs.NumberedLeaves.{numbered_leaves}
 use Rattle.qm_contacts.proofs.NumberingLeaves.{numbered_count}
-use Rattle.qm_formats.specs.Layout.{got}
-use Rattle.qm_formats.specs.Fields.{AreBytes, unsigned}
+use Rattle.qm_formats.specs.Fields.{unsigned}
 use Rattle.qm_formats.specs.FileParts.{short}
 use Rattle.qm_formats.specs.TreeFile.{IsValidFile}
 use Rattle.qm_formats.specs.FileLayout.{file_bytes, file_limit}
 use Rattle.qm_plain.specs.PlainFile.{IsPlainFile}
 use Rattle.qm_outlines.specs.Models.{IsModelOf}
 use Rattle.qm_model_layout.specs.BrushModel.{BrushModel, AreModelsBehind, AreValidModels}
-use Rattle.qm_model_layout.specs.ModelLayout.{models_bytes, read_models}
+use Rattle.qm_model_layout.specs.ModelLayout.{models_bytes}
 use Rattle.qm_model_layout.proofs.WrittenModels.{models_bytes-parts}
-use Rattle.qm_model_layout.proofs.WholeSections.{read_models_again}
 use Rattle.qm_model_sections.specs.MapModels.{model_found, AreBrushModelsOf}
 use Rattle.qm_model_sections.specs.ModelBytes.{AreBytesOfModels}
 use Rattle.qm_model_sections.proofs.WrittenBoxes.{box_written}
@@ -71,11 +69,9 @@ module _ (map : MapFile) (world : Tree) (few_entities : length map.entities < 2 
           each = behind 0 models (found_ascend map world (mapped model_found models) are.are_found) (each_model map world models are) are.are_plain are.are_valid fit;
         }
 
-    -- their bytes are read again
-    pub bytes_of_models : AreBytes bytes → AreBytesOfModels world models bytes
-    bytes_of_models each_byte = record {
+    -- so their bytes are those of models of the section
+    pub bytes_of_models : AreBytesOfModels world models bytes
+    bytes_of_models = record {
       exactly = exactly;
-      read_again = λ fits.
-          let read = read_models_again world_extent (length (numbered_leaves world)) bytes models each_byte (record { are_valid = valid_models fits; bytes_are = exactly }) in
-          subst (λ (n : ℕ). read_models world_extent n bytes ≡ got models (length bytes)) (numbered_count (leaves_of world.shape) 0) read;
+      are_valid = λ fits. subst (λ (n : ℕ). AreValidModels world_extent n models) (numbered_count (leaves_of world.shape) 0) (valid_models fits);
     }

@@ -1,4 +1,4 @@
--- The bytes of a map's faces are read again.
+-- The faces of a map can stand in a section, where their bytes are not too long.
 use Rattle.std.proofs.Common.{◌≡◌, ◌<◌, ◌≤◌, ℕ, ◌^◌, ℤ, Bool, true, false, not, List, [], ◌∷◌, ◌++◌, length, get_or, All, sym, ap, subst, length-append, arith}
 use Rattle.std.specs.Int.{w64}
 use Rattle.std.proofs.lemmas.Option.{slice_get-get_or}
@@ -25,7 +25,6 @@ use Rattle.qm_face_layout.specs.ValidFace.{IsFaceOfFile, AreFacesOfFile}
 use Rattle.qm_face_layout.specs.FacesLayout.{faces_bytes}
 use Rattle.qm_face_layout.specs.FaceCorners.{AreNumberedCorners}
 use Rattle.qm_face_layout.proofs.NumberedCorners.{numbered_face}
-use Rattle.qm_face_layout.proofs.ValidFaces.{valid_faces_again}
 use Rattle.qm_face_sections.specs.FaceRecords.{IsRecordOf, AreRecordsOf, HasSmallNumbers}
 use Rattle.qm_face_sections.specs.MapFaces.{AreFacesOfMap}
 use Rattle.qm_face_sections.specs.FaceBytes.{AreBytesOfFaces}
@@ -110,9 +109,6 @@ module _ (map : MapFile) (tree : Tree) (few_planes : length tree.planes < 2 ^ 32
         each = records_stand tree few_planes file tree_is bound_is are.pieces faces are.are_records are.is_surface.cover.within small few;
       }
 
-  -- their bytes are read again
+  -- so their bytes are those of faces of the section
   pub bytes_of_faces : AreBytesOfFaces tree faces bytes
-  bytes_of_faces = record {
-    exactly = exactly;
-    read_again = λ fits file tree_is bound_is. valid_faces_again file bytes faces (record { are_valid = valid_faces fits file tree_is bound_is; bytes_are = exactly });
-  }
+  bytes_of_faces = record { exactly = exactly; are_valid = valid_faces }
