@@ -1,8 +1,10 @@
 pub mod ModelsByEntity
 pub mod OneAnswer
+pub mod OnlyContents
 pub mod Places
 pub mod PrintableAnswers
 pub mod SpacedCorners
 pub mod SpacedNumbers
 pub mod Told
 pub mod UpgradedAnswers
+pub mod UpgradedFaces
