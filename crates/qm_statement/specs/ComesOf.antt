@@ -57,7 +57,7 @@ pub record IsWritten (before after : ShelfState) (command : MapCommand) (files :
   pub holds_out : HoldsOut before after files output.file
   pub holds_listing : HoldsListing before after files output.listing
 
--- memory ran out on the way: no call of the shelf failed, and OUT may be unfinished, or FILE behind a whole OUT
+-- memory ran out on the way: no call of the shelf failed, and OUT may be unfinished, or it is whole and FILE may be unfinished
 pub record IsCutShort (before after : ShelfState) (command : MapCommand) (files : FileNames) : Type 0 where
   pub no_fault : MetNoFault before after
   pub unfinished : IsOutUnfinished before after command files ⊎ ((name : List ℕ) × IsListingUnfinished before after command files name)

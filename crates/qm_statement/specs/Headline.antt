@@ -40,11 +40,12 @@ AreBounded true world rows = AreRowsOverCoarse world rows
 AreBounded false world rows = (m n : ℕ) → IsIn (slice_index_or rows m []) n → (n ≡ m) ⊎ IsLedByOpenChain world.portals m n
 
 -- What holds of the file. Each point inside the cube that is on no node plane is led to the contents that the map's brushes
--- define there, or to a filled leaf. No entity of the map leaks. Exactly those leaves are filled that the outside reaches, if some
--- entity stands in the open, and else none. Each line of sight has its last leaf in the row of its first, and its first in the row
--- of its last. No row has a leaf that portals do not lead to. The spans of each segment inside the cube tell the contents that the
--- brushes define, but in filled leaves; and where the box of a hull, set at a point of a segment, meets an obstacle, some span through that hull is solid.
--- The sections are those that the options ask for, and the form is the one in which maps are compiled.
+-- define there, or to a filled leaf. No entity of the map leaks. If some entity takes part, a leaf is filled exactly if the outside
+-- reaches the leaf of its number in the map's tree before filling; else none is. Each line of sight has its last leaf in the row of
+-- its first, and its first in the row of its last. The rows are bounded from above. The spans of each segment inside the cube tell
+-- the contents that the brushes define, except in filled leaves. If the box of a hull, set at a point of a segment, meets an
+-- obstacle, some span through that hull is solid. The sections are those that the options ask for, and the form is the one in which
+-- maps are compiled.
 pub record TellsOfMap (map : MapFile) (options : Options) (file : TreeFile) : Type 0 where
   pub contents : (x : Point) → IsInCube x → IsOffNodePlanes file.tree.planes file.tree.shape x → HasRightContents map x (leaf_record_at file.tree.planes file.tree.shape x)
   pub unfilled : Tree

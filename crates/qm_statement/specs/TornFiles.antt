@@ -16,20 +16,22 @@ use Rattle.qm_statement.specs.ComesOf.{IsOutputOfText, IsDueInOut}
 use Rattle.qm_statement.specs.Output.{Output}
 use Rattle.qm_statement.specs.UpgradeComesOf.{IsUpgradeDue}
 
--- No tree file or listing is taken for whole that was cut off. Whatever the end of `compile` or `upgrade`, what it writes is as
--- it was, is whole, or is refused when it is read. Of `format` this says nothing, since the beginning of a text can be a map.
+-- No tree file or listing is taken for whole that was cut off. However `compile` or `upgrade` ends, each file that it writes is as
+-- it was, is whole, or has bytes that are refused when they are read; a listing so only if its numbers are short. This says nothing
+-- of `format`, since the beginning of a text can be a map.
 
 -- bytes that are refused in place of a tree file: their first fault is that they are too short, where they end, or that they are
 -- more than are read
 abbrev pub IsTreeRefused : List ℕ → List ℕ → Type 0
 IsTreeRefused bytes part = IsFaultOfFileBytes part short (length part) ⊎ IsFaultOfFileBytes part too_long file_limit
 
--- a listing whose counts its numbers of 18 digits can be: it has fewer than 10^18 leaves, and fewer than 2^62 bytes
+-- the text has fewer than 2^62 bytes, and each listing whose text it is has fewer than 10^18 leaves: its counts have 18 digits at
+-- most
 pub record HasShortNumbers (text : List ℕ) : Type 0 where
   pub leaves : (listing : Listing) → text ≡ listing_text listing → listing.leaves < 10 ^ 18
   pub bytes : length text < 2 ^ 62
 
--- only some of the first bytes of the text of a listing are there: no listing is read
+-- bytes that are refused in place of the text of a listing: no listing is read in them, if the numbers of the text are short
 abbrev pub IsListingRefused : List ℕ → List ℕ → Type 0
 IsListingRefused text part = HasShortNumbers text → (found : Listing) (end : ℕ) → read_listing part ≡ got found end → ⊥
 
@@ -37,11 +39,11 @@ IsListingRefused text part = HasShortNumbers text → (found : Listing) (end : �
 abbrev pub HoldsAll : ShelfState → List ℕ → (List ℕ → Type 0) → Type 0
 HoldsAll after name IsDue = (bytes : List ℕ) × IsDue bytes × HoldsExactly after name bytes
 
--- the file has others, which are refused where they stand in place of bytes that are due
+-- the file has bytes that are refused in place of those that are due
 abbrev pub HoldsRefused : ShelfState → List ℕ → (List ℕ → Type 0) → (List ℕ → List ℕ → Type 0) → Type 0
 HoldsRefused after name IsDue IsRefused = (bytes : List ℕ) × (part : List ℕ) × IsDue bytes × HoldsExactly after name part × IsRefused bytes part
 
--- the file is as it was, has all bytes that are due in it, or has others, which are refused
+-- the file is as it was, has all bytes that are due in it, or has bytes that are refused in their place
 abbrev pub IsNotTorn : ShelfState → ShelfState → List ℕ → (List ℕ → Type 0) → (List ℕ → List ℕ → Type 0) → Type 0
 IsNotTorn before after name IsDue IsRefused =
     HoldsTheSame before after name ⊎ (HoldsAll after name IsDue ⊎ HoldsRefused after name IsDue IsRefused)
