@@ -4,11 +4,13 @@ use Rattle.qm_contents.specs.declared.contents.Contents.{Contents}
 use Rattle.qm_contents.specs.declared.contents.Contents.TheVariants.{Empty, Solid, Water, Slime, Lava, Sky}
 use Rattle.qm_space.specs.Cuboid.{Cuboid}
 use Rattle.qm_space.specs.Plane.{Plane}
+use Rattle.qm_space.specs.Point.{Point}
 use Rattle.qm_partition.specs.declared.node.Leaf.{Leaf}
 use Rattle.qm_partition.specs.Tree.{Tree}
 use Rattle.qm_partition.specs.Counting.{leaves_of}
 use Rattle.qm_spans.specs.declared.span.Span.{Span}
-use Rattle.qm_spans.specs.ComputedSpans.{trace_of}
+use Rattle.qm_spans.specs.SegmentTrace.{IsSegmentTrace}
+use Rattle.qm_spans.proofs.ComputedSpans.{some_trace}
 use Rattle.qm_formats.specs.TreeFile.{Section, TreeFile}
 use Rattle.qm_model_layout.specs.BrushModel.{BrushModel}
 use Rattle.qm_face_layout.specs.declared.face_record.FaceRecord.{FaceRecord}
@@ -97,7 +99,7 @@ words_of_span_of (Some found) span = words_of_span found span
 abbrev pub span_words : Tree → Span → List ℕ
 span_words tree span = words_of_span_of (slice_get (leaves_of tree.shape) span.leaf) span
 
--- spans, each on a line of its own behind the line before
+-- spans, each on a line of its own after the line before
 unfoldable pub words_of_later_spans : Tree → List Span → List ℕ
 words_of_later_spans tree [] = []
 words_of_later_spans tree (span ∷ spans) = 10 ∷ (span_words tree span ++ words_of_later_spans tree spans)
@@ -107,9 +109,13 @@ unfoldable pub words_of_spans : Tree → List Span → List ℕ
 words_of_spans tree [] = []
 words_of_spans tree (span ∷ spans) = span_words tree span ++ words_of_later_spans tree spans
 
+-- the trace of a segment; each has just one, and it does not matter how it is found
+unfoldable pub trace_between : (tree : Tree) (a b : Point) → (spans : List Span) × IsSegmentTrace tree a b spans
+trace_between tree a b = some_trace tree a b
+
 -- the words of the trace of a segment
 abbrev pub words_of_trace : Tree → (from to : Millionths) → List ℕ
-words_of_trace tree from to = words_of_spans tree (trace_of tree (point_of from) (point_of to))
+words_of_trace tree from to = words_of_spans tree (trace_between tree (point_of from) (point_of to)).0
 
 -- those of the trace through a hull; a hull that is not known has none
 abbrev pub words_of_hull_trace : DecodedSection TreeFile → (from to : Millionths) → List ℕ

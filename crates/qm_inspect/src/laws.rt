@@ -14,6 +14,7 @@ ghost use Rattle.qm_commands.specs.declared.query.Query.{Query};
 ghost use Rattle.qm_answers.specs.declared.query_fault.QueryFault.{QueryFault};
 ghost use Rattle.qm_model_layout.specs.BrushModel.{BrushModel};
 ghost use Rattle.qm_answers.specs.Answers.{point_of, model_of_entity};
+ghost use Rattle.qm_answers.specs.AnswerText.{trace_between};
 ghost use Rattle.qm_answers.specs.DecodedSections.{AscendByEntity};
 ghost use Rattle.qm_answers.specs.AllAnswers.{AreAnswered, IsFirstRefused};
 ghost use Rattle.qm_space.specs.InsideBound.{IsInsideBound};
@@ -36,10 +37,12 @@ pub fn same_cube()
     ensures { (point : Point) → IsInsideBound world_extent point ↔ IsInCube point }
 {}
 
-/// The spans that are printed of a segment are its trace through the tree, and no other spans are.
+/// The spans that are printed of a segment are its trace through the tree, and no other spans are. They are what a walk down the
+/// tree computes.
 pub fn exact_traces()
-    ensures are_trace { (tree : Tree) (from to : Millionths) → IsSegmentTrace tree (point_of from) (point_of to) (trace_of tree (point_of from) (point_of to)) }
-    ensures only { (tree : Tree) (from to : Millionths) (other : List Span) → IsSegmentTrace tree (point_of from) (point_of to) other → other ≡ trace_of tree (point_of from) (point_of to) }
+    ensures are_trace { (tree : Tree) (from to : Millionths) → IsSegmentTrace tree (point_of from) (point_of to) (trace_between tree (point_of from) (point_of to)).0 }
+    ensures only { (tree : Tree) (from to : Millionths) (other : List Span) → IsSegmentTrace tree (point_of from) (point_of to) other → other ≡ (trace_between tree (point_of from) (point_of to)).0 }
+    ensures computed { (tree : Tree) (from to : Millionths) → (trace_between tree (point_of from) (point_of to)).0 ≡ trace_of tree (point_of from) (point_of to) }
 {}
 
 /// The model that answers for an entity is one of the models and has this entity, and where there is none, no model has it. Where

@@ -208,6 +208,10 @@ computed_trace tree a b =
     (subst (λ (p : PlaceOnSegment). AreSpans leaf_of a b (lowest_place start_parting) p spans) lowest_end
     (part_gives tree.planes a b tree.shape leaf_of 0 start_parting end_parting (omega arith) (λ i j after until. omega arith)))
 
+-- so a segment has a trace
+pub some_trace : (tree : Tree) (a b : Point) → (spans : List Span) × IsSegmentTrace tree a b spans
+some_trace tree a b = (trace_of tree a b, computed_trace tree a b)
+
 leaves_there : (count : ℕ) (spans : List Span) → AllByRecursion (λ span. (0 ≤ span.leaf) × (span.leaf < 0 + count)) spans → AllByRecursion (λ span. span.leaf < count) spans
 leaves_there count [] all = tt
 leaves_there count (span ∷ spans) all = let first = all.0 in (omega (arith, first.1), leaves_there count spans all.1)
