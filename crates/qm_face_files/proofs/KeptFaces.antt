@@ -6,11 +6,12 @@ use Rattle.qm_mapfile.specs.declared.entity.MapFile.{MapFile}
 use Rattle.qm_formats.specs.FileLayout.{file_limit}
 use Rattle.qm_formats.specs.TreeFile.{Section, TreeFile}
 use Rattle.qm_face_layout.specs.declared.face_record.FaceRecord.{FaceRecord}
-use Rattle.qm_face_layout.specs.FacesLayout.{read_faces}
+use Rattle.qm_face_layout.specs.FacesLayout.{AreFacesBytes}
 use Rattle.qm_face_sections.specs.MapFaces.{AreFacesOfMap}
 use Rattle.qm_answers.specs.declared.decoded_section.DecodedSection.{DecodedSection}
 use Rattle.qm_answers.specs.declared.decoded_section.DecodedSection.TheVariants.{Known}
-use Rattle.qm_answers.specs.DecodedSections.{section_bytes, if_decoded, decoded_by, known_if_read, kind_of_faces, decoded_faces}
+use Rattle.qm_answers.specs.DecodedSections.{section_bytes, decoded_by, known_if_found, kind_of_faces, faces_answer, decoded_faces}
+use Rattle.qm_answers.proofs.OnlyContents.{is_faces_answer}
 use Rattle.qm_commands.specs.declared.options.Options.{Options}
 use Rattle.qm_statement.specs.AskedSections.{IsFaceSection, AreFacesAsAsked, AreSectionsAsked}
 use Rattle.qm_statement.proofs.SectionsOfKinds.{past_hulls, past_models}
@@ -28,10 +29,13 @@ module _ (map : MapFile) (options : Options) (file : TreeFile) (asked : AreSecti
     has_bytes : section_bytes file.sections kind_of_faces ≡ Some section.bytes
     has_bytes = found_behind ∙ ap (λ (s : List Section). section_bytes s kind_of_faces) alone ∙ (rw is.kind_is refl)
 
+    are_bytes_of : length section.bytes ≤ file_limit → AreFacesBytes file section.bytes is.faces
+    are_bytes_of fits = record { are_valid = is.bytes_are.are_valid fits file refl bound; bytes_are = is.bytes_are.exactly }
+
     is_decoded : length section.bytes ≤ file_limit → decoded_faces file ≡ Known is.faces
     is_decoded fits =
-        let of_bytes : if_decoded (read_faces file section.bytes) ≡ Some is.faces = ap if_decoded (is.bytes_are.read_again fits file refl bound) in
-        ap (λ (b : Option (List ℕ)). decoded_by (λ bytes. if_decoded (read_faces file bytes)) b) has_bytes ∙ ap known_if_read of_bytes
+        let answer = is_faces_answer file section.bytes (Some is.faces) (are_bytes_of fits) in
+        ap (λ (b : Option (List ℕ)). decoded_by (λ bytes. (faces_answer file bytes).0) b) has_bytes ∙ ap known_if_found (sym answer)
 
     has_faces : HasFaces file
     has_faces = record {

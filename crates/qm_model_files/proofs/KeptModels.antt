@@ -5,12 +5,13 @@ use Rattle.qm_space.specs.Bounds.{world_extent}
 use Rattle.qm_mapfile.specs.declared.entity.MapFile.{MapFile}
 use Rattle.qm_formats.specs.FileLayout.{file_limit}
 use Rattle.qm_formats.specs.TreeFile.{Section, TreeFile}
-use Rattle.qm_model_layout.specs.BrushModel.{BrushModel}
-use Rattle.qm_model_layout.specs.ModelLayout.{read_models}
+use Rattle.qm_model_layout.specs.BrushModel.{BrushModel, AreValidModels}
+use Rattle.qm_model_layout.specs.ModelLayout.{AreModelsBytes}
 use Rattle.qm_model_sections.specs.MapModels.{AreBrushModelsOf}
 use Rattle.qm_answers.specs.declared.decoded_section.DecodedSection.{DecodedSection}
 use Rattle.qm_answers.specs.declared.decoded_section.DecodedSection.TheVariants.{Known}
-use Rattle.qm_answers.specs.DecodedSections.{section_bytes, numbered_count, if_decoded, decoded_by, known_if_read, kind_of_models, decoded_models}
+use Rattle.qm_answers.specs.DecodedSections.{section_bytes, numbered_count, decoded_by, known_if_found, kind_of_models, models_answer, decoded_models}
+use Rattle.qm_answers.proofs.OnlyContents.{is_models_answer}
 use Rattle.qm_commands.specs.declared.options.Options.{Options}
 use Rattle.qm_statement.specs.AskedSections.{IsModelSection, AreModelsAsAsked, AreSectionsAsked}
 use Rattle.qm_statement.proofs.SectionsOfKinds.{past_hulls, past_faces}
@@ -32,12 +33,16 @@ module _ (map : MapFile) where
       has_bytes : section_bytes file.sections kind_of_models ≡ Some section.bytes
       has_bytes = found_behind ∙ ap (λ (s : List Section). section_bytes (s ++ asked.faces) kind_of_models) alone ∙ (rw is.kind_is refl)
 
+      are_bytes_of : length section.bytes ≤ file_limit → AreModelsBytes file.bound (numbered_count file) section.bytes is.models
+      are_bytes_of fits = record {
+        are_valid = subst (λ (n : ℕ). AreValidModels n (numbered_count file) is.models) (sym bound) (is.bytes_are.are_valid fits);
+        bytes_are = is.bytes_are.exactly;
+      }
+
       is_decoded : length section.bytes ≤ file_limit → decoded_models file ≡ Known is.models
       is_decoded fits =
-          let read = ap if_decoded (is.bytes_are.read_again fits) in
-          let of_bytes : if_decoded (read_models file.bound (numbered_count file) section.bytes) ≡ Some is.models =
-          subst (λ (n : ℕ). if_decoded (read_models n (numbered_count file) section.bytes) ≡ Some is.models) (sym bound) read in
-          ap (λ (b : Option (List ℕ)). decoded_by (λ bytes. if_decoded (read_models file.bound (numbered_count file) bytes)) b) has_bytes ∙ ap known_if_read of_bytes
+          let answer = is_models_answer file.bound (numbered_count file) section.bytes (Some is.models) (are_bytes_of fits) in
+          ap (λ (b : Option (List ℕ)). decoded_by (λ bytes. (models_answer file.bound (numbered_count file) bytes).0) b) has_bytes ∙ ap known_if_found (sym answer)
 
       has_models : HasModels file
       has_models = record {

@@ -16,6 +16,7 @@ use Rattle.qm_listing.specs.declared.listing.Listing.{Listing}
 use Rattle.qm_listing.specs.Grammar.{listing_text}
 use Rattle.qm_listing.specs.WorldListing.{IsListingOf}
 use Rattle.qm_listing.proofs.CutListings.{listing_cut_off}
+use Rattle.qm_listing.proofs.WholeListings.{read_listing_again}
 use Rattle.qm_listing.proofs.WorldListings.{world_listing_stands}
 use Rattle.qm_mapfile.specs.declared.entity.MapFile.{MapFile}
 use Rattle.qm_commands.specs.declared.map_command.MapCommand.{MapCommand}
@@ -50,9 +51,10 @@ tree_refused file bytes count valid is less =
 
 -- the listing of a world
 listing_refused : (world : World) (listing : Listing) (text : List ℕ) (count : ℕ) → HasOwnPortals world → IsListingOf world listing → text ≡ listing_text listing → count < length text → IsListingRefused text (take count text)
-listing_refused world listing text count own is_listing is less = λ fits found end.
+listing_refused world listing text count own is_listing is less = λ fits other stands other_is.
     let can = world_listing_stands world listing own is_listing (fits.leaves listing is) (subst (λ (b : List ℕ). length b < 2 ^ 62) is fits.bytes) in
-    listing_cut_off listing (take count text) (drop count text) can (sym is ∙ parted text count) (some_behind text count less) found end
+    listing_cut_off listing (take count text) (drop count text) can (sym is ∙ parted text count) (some_behind text count less) other (length (take count text))
+    (read_listing_again (take count text) other stands other_is)
 
 module _ (before after : ShelfState) (name : List ℕ) (IsDue : List ℕ → Type 0) (IsRefused : List ℕ → List ℕ → Type 0) (refuses : (bytes : List ℕ) (count : ℕ) → IsDue bytes → count < length bytes → IsRefused bytes (take count bytes)) where
   prefix_left : (bytes : List ℕ) → IsDue bytes → HoldsPrefix after name bytes → IsNotTorn before after name IsDue IsRefused

@@ -10,7 +10,7 @@ use Rattle.qm_solids.specs.Contents.{HasContents}
 use Rattle.qm_partition.specs.declared.node.Leaf.{Leaf}
 use Rattle.qm_partition.specs.Tree.{Tree}
 use Rattle.qm_partition.specs.LeafOfPoint.{leaf_record_at, IsOffNodePlanes}
-use Rattle.qm_partition.specs.Marked.{IsFilledLeaf}
+use Rattle.qm_partition.specs.Marked.{marked_tree, IsFilledLeaf}
 use Rattle.qm_contacts.specs.Leak.{Origin, Leaks}
 use Rattle.qm_contacts.specs.Filled.{IsToBeFilled}
 use Rattle.qm_contacts.specs.World.{World}
@@ -40,9 +40,9 @@ AreBounded true world rows = AreRowsOverCoarse world rows
 AreBounded false world rows = (m n : ℕ) → IsIn (slice_index_or rows m []) n → (n ≡ m) ⊎ IsLedByOpenChain world.portals m n
 
 -- What holds of the file. Each point inside the cube that is on no node plane is led to the contents that the map's brushes
--- define there, or to a filled leaf. No entity of the map leaks. If some entity takes part, a leaf is filled exactly if the outside
--- reaches the leaf of its number in the map's tree before filling; else none is. Each line of sight has its last leaf in the row of
--- its first, and its first in the row of its last. The rows are bounded from above. The spans of each segment inside the cube tell
+-- define there, or to a filled leaf. The tree is the map's, with some leaves filled. No entity of the map leaks. If some entity takes
+-- part, exactly the leaves are filled that the outside reaches before filling; else none is. Each line of sight has its last leaf in
+-- the row of its first, and its first in the row of its last. The rows are bounded from above. The spans of each segment inside the cube tell
 -- the contents that the brushes define, except in filled leaves. If the box of a hull, set at a point of a segment, meets an
 -- obstacle, some span through that hull is solid. The sections are those that the options ask for, and the form is the one in which
 -- maps are compiled.
@@ -53,6 +53,8 @@ pub record TellsOfMap (map : MapFile) (options : Options) (file : TreeFile) : Ty
   pub origins : List Origin
   pub are_origins : AreOriginsOf map origins
   pub none_leaks : (origin : Origin) → Contains origins origin → Leaks unfilled origin → ⊥
+  pub marks : List Bool
+  pub is_marked : file.tree ≡ marked_tree marks unfilled
   pub filled : (k : ℕ) → IsFilledLeaf file.tree k ↔ IsToBeFilled unfilled origins k
   pub rows : List (List Bool)
   pub has_rows : file.rows ≡ Some rows

@@ -1,12 +1,11 @@
 use Rattle.std.specs.Prelude.{◌≡◌, ◌⊎◌, ◌<◌, ◌^◌, ℕ, List, Some, length, IsTrue}
 use Rattle.qm_surroundings.specs.ShelfState.{ShelfState}
 use Rattle.qm_surroundings.specs.WholeFiles.{HoldsTheSame, HoldsExactly}
-use Rattle.qm_formats.specs.Layout.{got}
 use Rattle.qm_formats.specs.FileParts.{short, too_long}
 use Rattle.qm_formats.specs.FileLayout.{file_limit}
 use Rattle.qm_formats.specs.TreeFaults.{IsFaultOfFileBytes}
 use Rattle.qm_listing.specs.declared.listing.Listing.{Listing}
-use Rattle.qm_listing.specs.Grammar.{listing_text, read_listing}
+use Rattle.qm_listing.specs.Grammar.{listing_text, can_stand}
 use Rattle.qm_commands.specs.declared.map_command.MapCommand.{MapCommand}
 use Rattle.qm_commands.specs.declared.map_command.MapCommand.TheVariants.{Compile}
 use Rattle.qm_commands.specs.FileNames.{FileNames}
@@ -31,9 +30,9 @@ pub record HasShortNumbers (text : List ℕ) : Type 0 where
   pub leaves : (listing : Listing) → text ≡ listing_text listing → listing.leaves < 10 ^ 18
   pub bytes : length text < 2 ^ 62
 
--- bytes that are refused in place of the text of a listing: no listing is read in them, if the numbers of the text are short
+-- bytes that are refused in place of the text of a listing: they are the text of no listing, if the numbers of that text are short
 abbrev pub IsListingRefused : List ℕ → List ℕ → Type 0
-IsListingRefused text part = HasShortNumbers text → (found : Listing) (end : ℕ) → read_listing part ≡ got found end → ⊥
+IsListingRefused text part = HasShortNumbers text → (other : Listing) → IsTrue (can_stand other) → part ≡ listing_text other → ⊥
 
 -- the file has all bytes that are due in it
 abbrev pub HoldsAll : ShelfState → List ℕ → (List ℕ → Type 0) → Type 0

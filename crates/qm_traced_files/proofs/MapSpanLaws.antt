@@ -32,4 +32,4 @@ spans_of_leaking map file entity trail is = tell_contents map file.tree (or_fill
 
 pub hull_spans_of_compiled : (map : MapFile) (options : Options) (file : TreeFile) (world : World) (summary : Summary) → IsCompiledWithoutLeak map options file world summary → HullSpansTellObstacles map file
 hull_spans_of_compiled map options file world summary is hull found decoded =
-    hull_spans map (hull_box hull) (hull_box_moves hull).has_origin found (kept_hull map options file hull found is.has_sections is.has_form.bound is.is_valid decoded)
+    hull_spans map (hull_box hull) (hull_box_moves hull).has_origin found (kept_hull map options file hull found is.has_sections is.has_form.bound decoded)
