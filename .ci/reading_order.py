@@ -181,7 +181,7 @@ class Order:
         head = (
             f"The contract of `{TOP}` stands in [{self.call.source.file.name}](../{self.call.source.file}). It leads to "
             f"{len(definitions)} files of definitions, and to types in {len(self.of_run) - len(definitions)} files of `src`; "
-            f"claims lead to {len(self.files - self.of_run)} more, each by the law that its line names."
+            f"claims lead to {len(self.files - self.of_run)} more, each with the call nearest to it."
         )
         return {
             "reading order": [head, *self.reading(), "", self.of_library()],
