@@ -41,12 +41,14 @@ def reached(repository, cell):
 
 
 def claims(repository):
-    """Each row of the table, in order; each claim of the page has one."""
+    """Each row of the table, in order; each claim of the page has one, and the last is that of `run`."""
     page = PAGE.read_text()
     titles = dict(TITLE.findall(page))
     rows = [(row[1].strip("| "), row[2]) for row in ROW.finditer(page)]
     if sorted(titles) != sorted(name for name, _ in rows if name.isdigit()):
         raise Missing(f"{PAGE} has a claim without a row in its table, or a row without its claim")
+    if not rows or "/src/" not in rows[-1][1]:
+        raise Missing(f"the last row of the table of {PAGE} does not lead to the contract of {TOP}")
     for name, cell in rows:
         title = f"Claim {name}: {titles[name].lower()}" if name in titles else name[0].upper() + name[1:]
         yield Claim(title, cell, reached(repository, cell))

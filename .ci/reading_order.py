@@ -7,8 +7,8 @@ to, which others there are, and which calls require something; and holds them to
     python3 .ci/reading_order.py --names   prints the order with the name of each definition that is reached
 
 The claims come in the order of the table of docs/THEOREM.md, whose last row is the contract of `run`. A file stands with the
-first claim that leads to it; within a claim crates and files stand from the top down. Each file of definitions has one line: the
-first sentence of the comment at its head; or, where it has none, the comment of the definition that is named as the file,
+first claim that leads to it; within a claim crates and files stand from the top down. Each file of definitions has one line:
+the first sentence of the comment at its head; or, where it has none, the comment of the definition that is named as the file,
 or else of those that no other one of the file names. `.ci/reading_lines` has lines that take their place."""
 
 from pathlib import Path
@@ -86,7 +86,8 @@ class Order:
             listed = re.findall(r"(?m)^ *pub (?:struct|enum|trait|const) (\w+)", self.repository.source(crate, module).text)
         here = [named for named in self.steps if named[:3] == file]
         below = {named: [other for other in self.repository.below(named) if other in here] for named in here}
-        return [named.name for named in top_down(sorted(here, key=lambda named: listed.index(named.name)), below)]
+        here.sort(key=lambda named: listed.index(named.name) if named.name in listed else len(listed))
+        return [named.name for named in top_down(here, below)]
 
     def main_names(self, file, having):
         """The definitions of a file that say what it is about: the one named as it, or those that no other one names."""
@@ -113,7 +114,7 @@ class Order:
         kind, crate, module = file
         names = ", ".join(f"`{name}`" for name in self.names(file))
         if kind == "definition":
-            also = f" ({names})" if with_names else "" if file in self.of_run else f" (`{self.nearest[file][3]}`)"
+            also = f" ({names})" if with_names else "" if file in self.of_run else f" ({self.by(file)})"
             return f"- [{module}](../{specs_file(crate, module)}){also}: {self.says(file)}"
         source = self.repository.source(crate, module)
         text = source.head() or source.doc(self.names(file)[0])
@@ -147,6 +148,9 @@ class Order:
                     nearest[named[:3]] = min(nearest.get(named[:3], here), here)
         return nearest
 
+    def by(self, file):
+        return f"`{self.nearest[file][3]}`" if file in self.nearest else "no call, proofs alone"
+
     def apart(self):
         """A line for each crate with files of definitions to which neither a claim nor the contract of `run` leads."""
         for crate in self.repository.crates:
@@ -154,8 +158,7 @@ class Order:
             for module in self.repository.modules(crate):
                 file = ("definition", crate, module)
                 if file not in self.files:
-                    by = f"`{self.nearest[file][3]}`" if file in self.nearest else "no call, proofs alone"
-                    listed.append(f"[{module}](../{specs_file(crate, module)}) ({by})")
+                    listed.append(f"[{module}](../{specs_file(crate, module)}) ({self.by(file)})")
             if listed:
                 yield f"- `{crate}`: {', '.join(listed)}."
 
@@ -164,9 +167,12 @@ class Order:
             crate, _, module = name.partition("/")
             if ("definition", crate, module) not in self.files:
                 yield f"{LINES} has a line for {name}, which is no file of the reading order"
-        for kind, crate, module in sorted(self.files):
-            if kind == "definition" and module.startswith("inner."):
-                yield f"a claim or the contract of {TOP} leads to {specs_file(crate, module)}, which therefore has to stand outside specs/inner"
+        for file in sorted(file for file in self.files if file[0] == "definition"):
+            name = specs_file(*file[1:])
+            if file[2].startswith("inner."):
+                yield f"a claim or the contract of {TOP} leads to {name}, which therefore has to stand outside specs/inner"
+            if file not in self.nearest:
+                yield f"a claim leads to {name}, and no public call does"
 
     def required(self):
         """A line for each crate with the public calls that require something."""
