@@ -1,13 +1,14 @@
 #!/usr/bin/env python3
-"""Writes the parts of docs/PROOF.md that say which definitions stand behind the contract of `run`, which others there
-are, and which calls require something; and holds them to the sources.
+"""Writes the parts of docs/PROOF.md that say which definitions each claim of docs/THEOREM.md and the contract of `run` lead
+to, which others there are, and which calls require something; and holds them to the sources.
 
     python3 .ci/reading_order.py           says what is wrong, and ends with 1 if anything is
     python3 .ci/reading_order.py --write   writes the parts anew
     python3 .ci/reading_order.py --names   prints the order with the name of each definition that is reached
 
-`run` is the public call of that name in a crate on which the program stands. Each file of definitions has one line: the
-first sentence of the comment at its head; or, where it has none, the comment of the definition that is named as the file,
+The claims come in the order of the table of docs/THEOREM.md, whose last row is the contract of `run`. A file stands with the
+first claim that leads to it; within a claim crates and files stand from the top down. Each file of definitions has one line:
+the first sentence of the comment at its head; or, where it has none, the comment of the definition that is named as the file,
 or else of those that no other one of the file names. `.ci/reading_lines` has lines that take their place."""
 
 from pathlib import Path
@@ -15,25 +16,15 @@ import re
 import sys
 
 from check_crates import rules
+from claims import TOP, claims, top
 from definitions import Missing, Repository, source_file, specs_file
 
-PROGRAM, TOP = "qmapc", "run"
 PAGE, LINES = Path("docs/PROOF.md"), Path(".ci/reading_lines")
 BEGIN, END = "<!-- begin {}, written by .ci/reading_order.py -->\n", "<!-- end {} -->\n"
 
 
-def top(repository):
-    """The contract from which the reading begins."""
-    found = []
-    for crate in repository.crates[PROGRAM]:
-        found += [call for call in repository.public_calls(crate) if call.name == TOP]
-    if len(found) != 1:
-        raise Missing(f"{len(found)} crates on which {PROGRAM} stands have a public call {TOP}, and one is wanted")
-    return found[0]
-
-
 def top_down(items, below):
-    """The items in an order in which each stands before all that is below it; those named first come early."""
+    """The items in an order in which each stands before all of them that are below it; those named first come early."""
     ended, seen = [], set()
 
     def go(item):
@@ -45,7 +36,8 @@ def top_down(items, below):
 
     for item in reversed(items):
         go(item)
-    return ended[::-1]
+    wanted = set(items)
+    return [item for item in reversed(ended) if item in wanted]
 
 
 def lifted(steps, repository, part):
@@ -66,18 +58,19 @@ def sentence(text):
 
 
 class Order:
-    """The files behind the contract of `run`, in reading order, and those to which it does not lead."""
+    """The files to which claims and the contract of `run` lead, in reading order, and those to which none does."""
 
     def __init__(self):
         self.repository = Repository()
         self.call = top(self.repository)
         steps = self.repository.reach(dict.fromkeys(self.repository.roots(self.call)))
-        self.library = [named for named in steps if named.kind == "library"]
-        self.steps = [named for named in steps if named.kind != "library"]
-        crates = lifted(self.steps, self.repository, lambda named: named.crate)
-        files = lifted(self.steps, self.repository, lambda named: named[:3])
-        self.crates = top_down(list(crates), crates)
-        self.files = top_down(list(files), files)
+        self.of_run = {named[:3] for named in steps if named.kind != "library"}
+        self.claims = list(claims(self.repository))
+        self.steps = list(dict.fromkeys(named for claim in self.claims for named in claim.reached))
+        self.below = lifted(self.steps, self.repository, lambda named: named[:3])
+        self.crates_below = lifted(self.steps, self.repository, lambda named: named.crate)
+        self.files = set(self.below)
+        self.nearest = self.calls_to()
         self.lines, self.faults = {}, []
         for line in LINES.read_text().splitlines() if LINES.is_file() else []:
             if line and not line.startswith("#"):
@@ -85,7 +78,16 @@ class Order:
                 self.lines[name] = text
 
     def names(self, file):
-        return [named.name for named in self.steps if named[:3] == file]
+        """What is reached of a file, from the top down, else in the order of its text."""
+        kind, crate, module = file
+        if kind == "definition":
+            listed = [*self.repository.definitions(crate, module).texts]
+        else:
+            listed = re.findall(r"(?m)^ *pub (?:struct|enum|trait|const) (\w+)", self.repository.source(crate, module).text)
+        here = [named for named in self.steps if named[:3] == file]
+        below = {named: [other for other in self.repository.below(named) if other in here] for named in here}
+        here.sort(key=lambda named: listed.index(named.name) if named.name in listed else len(listed))
+        return [named.name for named in top_down(here, below)]
 
     def main_names(self, file, having):
         """The definitions of a file that say what it is about: the one named as it, or those that no other one names."""
@@ -112,21 +114,28 @@ class Order:
         kind, crate, module = file
         names = ", ".join(f"`{name}`" for name in self.names(file))
         if kind == "definition":
-            also = f" ({names})" if with_names else ""
+            also = f" ({names})" if with_names else "" if file in self.of_run else f" ({self.by(file)})"
             return f"- [{module}](../{specs_file(crate, module)}){also}: {self.says(file)}"
         source = self.repository.source(crate, module)
         text = source.head() or source.doc(self.names(file)[0])
         return f"- {names} in [{source_file(crate, module).name}](../{source.file}): {sentence(text)}"
 
     def reading(self, with_names=False):
-        """The lines of the reading order, crate by crate."""
+        """The lines of the reading order: for each claim those of the files that it is the first to lead to, crate by crate."""
         kinds = {name: f": {sentence(what)}" for name, what, _, _ in rules()}
-        for crate in self.crates:
-            yield f"\n**`{crate}`**{kinds.get(crate, '')}\n"
-            yield from (self.file_line(file, with_names) for file in self.files if file[1] == crate)
+        had = set()
+        for claim in self.claims:
+            reached = dict.fromkeys(named[:3] for named in claim.reached)
+            files = top_down([file for file in reached if file not in had], self.below)
+            yield f"\n### {claim.title}\n\nStated by {claim.cell}. New here: {len(files)} of {len(reached)} files.\n"
+            for crate in top_down(list(dict.fromkeys(file[1] for file in files)), self.crates_below):
+                yield f"- `{crate}`{kinds.pop(crate, '')}"
+                yield from (f"  {self.file_line(file, with_names)}" for file in files if file[1] == crate)
+            had.update(files)
 
     def of_library(self):
-        modules = sorted({named.module for named in self.library})
+        below = {other for named in self.steps for other in self.repository.below(named)}
+        modules = sorted({named.module for named in below if named.kind == "library"})
         return "Beside these they name definitions of the standard library, in its modules " + ", ".join(modules) + "."
 
     def calls_to(self):
@@ -139,16 +148,17 @@ class Order:
                     nearest[named[:3]] = min(nearest.get(named[:3], here), here)
         return nearest
 
+    def by(self, file):
+        return f"`{self.nearest[file][3]}`" if file in self.nearest else "no call, proofs alone"
+
     def apart(self):
-        """A line for each crate with files of definitions to which the contract of `run` does not lead."""
-        nearest = self.calls_to()
+        """A line for each crate with files of definitions to which neither a claim nor the contract of `run` leads."""
         for crate in self.repository.crates:
             listed = []
             for module in self.repository.modules(crate):
                 file = ("definition", crate, module)
                 if file not in self.files:
-                    by = f"`{nearest[file][3]}`" if file in nearest else "no call, proofs alone"
-                    listed.append(f"[{module}](../{specs_file(crate, module)}) ({by})")
+                    listed.append(f"[{module}](../{specs_file(crate, module)}) ({self.by(file)})")
             if listed:
                 yield f"- `{crate}`: {', '.join(listed)}."
 
@@ -157,9 +167,12 @@ class Order:
             crate, _, module = name.partition("/")
             if ("definition", crate, module) not in self.files:
                 yield f"{LINES} has a line for {name}, which is no file of the reading order"
-        for kind, crate, module in self.files:
-            if kind == "definition" and module.startswith("inner."):
-                yield f"the contract of {TOP} leads to {specs_file(crate, module)}, which therefore has to stand outside specs/inner"
+        for file in sorted(file for file in self.files if file[0] == "definition"):
+            name = specs_file(*file[1:])
+            if file[2].startswith("inner."):
+                yield f"a claim or the contract of {TOP} leads to {name}, which therefore has to stand outside specs/inner"
+            if file not in self.nearest:
+                yield f"a claim leads to {name}, and no public call does"
 
     def required(self):
         """A line for each crate with the public calls that require something."""
@@ -170,10 +183,11 @@ class Order:
 
     def parts(self):
         """What is written into the page, by the name of each part."""
-        definitions = [file for file in self.files if file[0] == "definition"]
+        definitions = [file for file in self.of_run if file[0] == "definition"]
         head = (
             f"The contract of `{TOP}` stands in [{self.call.source.file.name}](../{self.call.source.file}). It leads to "
-            f"{len(definitions)} files of definitions, and to types in {len(self.files) - len(definitions)} files of `src`."
+            f"{len(definitions)} files of definitions, and to types in {len(self.of_run) - len(definitions)} files of `src`; "
+            f"claims lead to {len(self.files - self.of_run)} more, each with the call nearest to it."
         )
         return {
             "reading order": [head, *self.reading(), "", self.of_library()],

@@ -8,16 +8,10 @@ A row has the number of a claim, the definitions that state it as links, and two
 these definitions lead to, they included. Blank lines, comments and imports are not counted. The last row has the contract of
 `run`. Types of src/ count with the lines of their declaration."""
 
-from pathlib import Path
-import re
 import sys
 
+from claims import PAGE, ROW, reached
 from definitions import Missing, Repository
-from reading_order import top
-
-PAGE = Path("docs/THEOREM.md")
-ROW = re.compile(r"(?m)^(\| [^|]+ \| )([^|]*\]\(\.\./crates/[^|]*)( \| )(\d+)( \| )([\d,]+)( \|)$")
-LINK = re.compile(r"\[`(\w+)`\]\(\.\./crates/(\w+)/(specs|src)/([\w/]+)\.(?:antt|rt)\)")
 
 
 def lines_of(repository, named):
@@ -31,16 +25,8 @@ def lines_of(repository, named):
 
 def counted(repository, cell):
     """The files and lines to which the linked definitions of a cell lead."""
-    roots = []
-    for name, crate, folder, module in LINK.findall(cell):
-        if folder == "src":
-            roots += repository.roots(top(repository))
-        else:
-            roots.append(repository.named(crate, module.replace("/", "."), name))
-    if not roots:
-        raise Missing(f"{PAGE} has a row without a linked definition: {cell}")
-    reached = [named for named in repository.reach(dict.fromkeys(roots)) if named.kind != "library"]
-    return len({named[:3] for named in reached}), sum(lines_of(repository, named) for named in reached)
+    names = reached(repository, cell)
+    return len({named[:3] for named in names}), sum(lines_of(repository, named) for named in names)
 
 
 def main():
