@@ -3,8 +3,8 @@
 pub enum DecodedSection<T> {
     /// The file has no section of its kind.
     Missing,
-    /// The reader of its kind refuses its bytes.
+    /// Its bytes are those of no content of its kind.
     Bad,
-    /// What the reader of its kind makes of its bytes.
+    /// The content whose bytes it has.
     Known(T),
 }

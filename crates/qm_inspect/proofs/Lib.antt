@@ -1,3 +1,4 @@
+pub mod DecodedParts
 pub mod CornersOfPlanes
 pub mod CountedBlocks
 pub mod FacesOfFiles

@@ -16,7 +16,7 @@ IfKnown (Known content) Holds = Holds content
 abbrev pub FitsIfKnown : DecodedSection TreeFile → Bool → Type 0
 FitsIfKnown section fits = IfKnown section (λ hull. IsTrue fits ↔ FitsTraces hull.tree)
 
--- each known section of a file, as its reader has decoded it, and through which trees segments can be traced
+-- what the sections of a file are decoded to, and through which of its trees segments can be traced
 pub record ArePartsOf (file : TreeFile) (parts : Parts) : Type 0 where
   pub fits : IsTrue parts.fits ↔ FitsTraces file.tree
   pub first_hull : parts.first_hull ≡ decoded_hull file 1

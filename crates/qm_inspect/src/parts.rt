@@ -1,15 +1,8 @@
 //! The sections of a tree file, decoded, and whether its trees can be traced through.
 
-ghost use Rattle.std.specs.Prelude.{◌≡◌, List, None, Some, IfOk, MatchOption};
-ghost use Rattle.qm_face_file.specs.Answers.{IsFaultOfFaces};
-ghost use Rattle.qm_face_layout.specs.declared.face_record.FaceRecord.{FaceRecord as SeenFace};
-ghost use Rattle.qm_formats.specs.FileParts.{FileFaultKind};
-ghost use Rattle.qm_formats.specs.Layout.{Decoded};
-ghost use Rattle.qm_model_file.specs.Answers.{IsFaultOfModels};
-ghost use Rattle.qm_model_layout.specs.BrushModel.{BrushModel as ModelRecord};
-ghost use Rattle.qm_plain.specs.PlainFile.{read_plain};
+ghost use Rattle.std.specs.Prelude.{◌≡◌, None, Some, IfOk, MatchOption};
 ghost use Rattle.qm_answers.specs.declared.decoded_section.DecodedSection.TheVariants.{Bad};
-ghost use Rattle.qm_answers.specs.DecodedSections.{section_bytes, if_decoded, known_if_read, decoded_by, decoded_hull, decoded_models, decoded_faces, AscendByEntity};
+ghost use Rattle.qm_answers.specs.DecodedSections.{section_bytes, decoded_by, plain_answer, decoded_hull, decoded_models, decoded_faces, AscendByEntity};
 ghost use Rattle.qm_inspect.specs.Parts.{ArePartsOf, FitsIfKnown, IfKnown, hull_in, fits_in};
 
 use crate::numbered::count_numbered;
@@ -47,7 +40,7 @@ pub struct Parts {
 }
 
 impl Parts {
-    /// Decodes each known section of a file once, or marks it as missing, or as bad exactly where its reader refuses its bytes.
+    /// Decodes each known section of a file once, or marks it as missing, or as bad exactly where its bytes are those of no content.
     /// Goes through each tree once.
     pub fn of(alloc: Global, file: &TreeFile) -> Result<Parts, AllocError>
         ensures { IfOk result (λ parts. ArePartsOf file.now parts) }
@@ -106,7 +99,7 @@ fn decoded_tree(
     file: &TreeFile,
     kind: u32,
 ) -> Result<DecodedSection<TreeFile>, AllocError>
-    ensures { IfOk result (λ section. section ≡ decoded_by (read_plain file.now.bound) (section_bytes file.now.sections kind)) }
+    ensures { IfOk result (λ section. section ≡ decoded_by (λ bytes. (plain_answer file.now.bound bytes).0) (section_bytes file.now.sections kind)) }
 {
     let Some(bytes) = section_bytes(file.sections.as_slice(), kind) else {
         return Ok(DecodedSection::Missing);
@@ -138,7 +131,7 @@ fn decoded_models(
 /// What a section is decoded to in which no models are read.
 fn not_read(fault: ModelsFault) -> Result<DecodedSection<Items<BrushModel>>, AllocError>
     ensures bad { IfOk result (λ section. section ≡ Bad) }
-    ensures refused { (answer : Decoded FileFaultKind (List ModelRecord)) → IsFaultOfModels fault answer → IfOk result (λ section. section ≡ known_if_read (if_decoded answer)) }
+    ensures refused { IfOk result (λ _. fault ≡ ModelsFault.Memory → ⊥) }
 {
     match fault {
         ModelsFault::Memory => Err(AllocError),
@@ -165,7 +158,7 @@ fn decoded_faces(
 /// What a section is decoded to in which no faces are read.
 fn no_faces(fault: FacesFault) -> Result<DecodedSection<Items<FaceRecord>>, AllocError>
     ensures bad { IfOk result (λ section. section ≡ Bad) }
-    ensures refused { (answer : Decoded FileFaultKind (List SeenFace)) → IsFaultOfFaces fault answer → IfOk result (λ section. section ≡ known_if_read (if_decoded answer)) }
+    ensures refused { IfOk result (λ _. fault ≡ FacesFault.Memory → ⊥) }
 {
     match fault {
         FacesFault::Memory => Err(AllocError),
