@@ -24,6 +24,15 @@ const MOST_ABOVE: u8 = 6;
 /// How many fragments each half of a cell has that is walked in halves.
 const LARGE: u64 = 64;
 
+/// Where a cell is walked: by the book that names its planes, with the gate that halves pass by, and below so many cells that are
+/// walked in halves.
+#[derive(Drop)]
+struct Halving<'a, B> {
+    book: &'a PlaneBook,
+    gate: &'a B,
+    above: u8,
+}
+
 /// What a walk meets in the partition into which solids divide the cell of fragments, below so many cells that are walked in
 /// halves.
 #[cycle(halves)]
@@ -39,20 +48,12 @@ pub(crate) fn walk_in_halves<R: Threads + Sync, B: HalvesGate + Sync>(
     ensures { IfOk result (λ walk. (solids : List Solid) → AreFragments solids book.now fragments →
         IsWalkOf solids book.now fragments walk.items) }
 {
+    let halving = Halving { book, gate, above };
     let mut walk = Vec::new(alloc);
     let mut pending = Vec::new(alloc);
     pending.push(fragments)?;
     while let Some(fragments) = pending.pop() {
-        visit_in_halves(
-            rt,
-            alloc,
-            book,
-            gate,
-            above,
-            fragments,
-            &mut pending,
-            &mut walk,
-        )?;
+        visit_in_halves(rt, alloc, &halving, fragments, &mut pending, &mut walk)?;
     }
     Ok(walk)
 }
@@ -63,26 +64,24 @@ pub(crate) fn walk_in_halves<R: Threads + Sync, B: HalvesGate + Sync>(
 fn visit_in_halves<R: Threads + Sync, B: HalvesGate + Sync>(
     rt: &R,
     alloc: Global,
-    book: &PlaneBook,
-    gate: &B,
-    above: u8,
+    halving: &Halving<'_, B>,
     fragments: Fragments,
     pending: &mut Vec<Fragments>,
     walk: &mut Vec<Visit>,
 ) -> Result<(), AllocError>
-    requires known { (solids : List Solid) × AreFragments solids book.now fragments }
-    ensures { OnOk result ((solids : List Solid) → AreFragments solids book.now fragments →
-        IsVisited solids book.now fragments pending.old.items walk.old.items pending.new.items walk.new.items) }
+    requires known { (solids : List Solid) × AreFragments solids halving.now.book.now fragments }
+    ensures { OnOk result ((solids : List Solid) → AreFragments solids halving.now.book.now fragments →
+        IsVisited solids halving.now.book.now fragments pending.old.items walk.old.items pending.new.items walk.new.items) }
 {
-    match top_of(fragments, book)? {
+    match top_of(fragments, halving.book)? {
         Top::Leaf(leaf) => {
             walk.push(Visit::Leaf(leaf))?;
             Ok(())
         }
         Top::Node(number, halves) => {
             walk.push(Visit::Node(number))?;
-            if above < MOST_ABOVE && are_large(&halves) {
-                walk_both(rt, alloc, book, gate, above, halves, walk)
+            if halving.above < MOST_ABOVE && are_large(&halves) {
+                walk_both(rt, alloc, halving, halves, walk)
             } else {
                 wait(halves, pending)
             }
@@ -95,18 +94,17 @@ fn visit_in_halves<R: Threads + Sync, B: HalvesGate + Sync>(
 fn walk_both<R: Threads + Sync, B: HalvesGate + Sync>(
     rt: &R,
     alloc: Global,
-    book: &PlaneBook,
-    gate: &B,
-    above: u8,
+    halving: &Halving<'_, B>,
     halves: CellHalves,
     walk: &mut Vec<Visit>,
 ) -> Result<(), AllocError>
-    requires above { above < MOST_ABOVE }
-    requires front { (solids : List Solid) × AreFragments solids book.now halves.front }
-    requires back { (solids : List Solid) × AreFragments solids book.now halves.back }
-    ensures { OnOk result ((solids : List Solid) → AreFragments solids book.now halves.front → AreFragments solids book.now halves.back →
-        AreBothWalked solids book.now halves walk.old.items walk.new.items) }
+    requires above { halving.now.above < MOST_ABOVE }
+    requires front { (solids : List Solid) × AreFragments solids halving.now.book.now halves.front }
+    requires back { (solids : List Solid) × AreFragments solids halving.now.book.now halves.back }
+    ensures { OnOk result ((solids : List Solid) → AreFragments solids halving.now.book.now halves.front → AreFragments solids halving.now.book.now halves.back →
+        AreBothWalked solids halving.now.book.now halves walk.old.items walk.new.items) }
 {
+    let (book, gate, above) = (halving.book, halving.gate, halving.above);
     let CellHalves { front, back } = halves;
     let before = move || -> Result<Vec<Visit>, AllocError>
         requires { IsSync R.row × IsSync B.row × (above < MOST_ABOVE) × ((solids : List Solid) × AreFragments solids book.now front) }

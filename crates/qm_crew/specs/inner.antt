@@ -1,2 +1,3 @@
 pub mod PassOver
 pub mod TurnsTaken
+pub mod Ready

@@ -15,7 +15,7 @@ use crate::alone::work_alone;
 use crate::gate::Gate;
 use crate::settling::{Settling, settle};
 use crate::shared::SharedWorld;
-use crate::team::{Team, work_all};
+use crate::team::{Team, Workers, work_all};
 use qm_bits::BitRow;
 use qm_board::{Pass, RowBoard};
 use qm_lines::LineStore;
@@ -123,7 +123,16 @@ fn work_by_several<R: Threads + Sync, G: Gate + Sync>(
         pass,
         first,
         others,
-    } = work_all(rt, alloc, shared.world, shared.board, gate, pass, workers)?;
+    } = work_all(
+        rt,
+        alloc,
+        shared,
+        gate,
+        Workers {
+            pass,
+            count: workers,
+        },
+    )?;
     let begun = Settling {
         pass,
         first,

@@ -1,18 +1,18 @@
 //! Workers beside one another, each with a pass of its own.
 
-ghost use Rattle.std.specs.Prelude.{◌≡◌, ◌∷◌, ◌++◌, ◌+◌, ◌<◌, [], IfOk};
+ghost use Rattle.std.specs.Prelude.{◌≡◌, ◌∷◌, ◌++◌, ◌+◌, [], IfOk};
 ghost use Rattle.qm_shared_rows.specs.Findings.{found_by_both};
 ghost use Rattle.std.specs.Thread.{IsSync};
 ghost use Rattle.qm_board.specs.PassOf.{findings_of, IsPassOf};
 ghost use Rattle.qm_crew.specs.inner.PassOver.{IsPassOver};
-ghost use Rattle.qm_crew.specs.inner.TurnsTaken.{LieAlong, AreWorkLists};
+ghost use Rattle.qm_crew.specs.inner.TurnsTaken.{AreWorkLists};
+ghost use Rattle.qm_crew.specs.inner.Ready.{AreReady};
 
 use crate::gate::Gate;
 use crate::shared::SharedWorld;
 use crate::worker::{Worker, work};
 use qm_board::{Pass, RowBoard};
 use qm_lists::Items;
-use qm_portal::World;
 use std::alloc::{AllocError, Global};
 use std::thread::{Threads, join};
 
@@ -24,31 +24,38 @@ pub(crate) struct Team {
     pub(crate) others: Vec<Items<u64>>,
 }
 
+/// So many workers that are to begin, and the pass from which theirs are split off.
+#[derive(Drop)]
+pub(crate) struct Workers {
+    pub(crate) pass: Pass,
+    pub(crate) count: u8,
+}
+
 /// So many workers, at work in halves beside one another.
 #[cycle(halves)]
 pub(crate) fn work_all<R: Threads + Sync, G: Gate + Sync>(
     rt: &R,
     alloc: Global,
-    world: &World,
-    board: &RowBoard,
+    shared: &SharedWorld<'_>,
     gate: &G,
-    pass: Pass,
-    count: u8,
+    workers: Workers,
 ) -> Result<Team, AllocError>
-    requires some { 0 < count }
-    requires pass { IsPassOver world.now board.now pass }
-    requires along { LieAlong world.now (findings_of pass) [] }
-    ensures pass { IfOk result (λ team. IsPassOver world.now board.now team.pass) }
-    ensures lists { IfOk result (λ team. AreWorkLists world.now (findings_of team.pass) count (team.first.items ∷ team.others.items)) }
+    requires ready { AreReady shared.now.world.now shared.now.board.now workers }
+    ensures pass { IfOk result (λ team. IsPassOver shared.now.world.now shared.now.board.now team.pass) }
+    ensures lists { IfOk result (λ team. AreWorkLists shared.now.world.now (findings_of team.pass) workers.count (team.first.items ∷ team.others.items)) }
 {
+    let Workers { pass, count } = workers;
     if count == 1 {
-        let shared = SharedWorld { world, board };
-        return Ok(team_of(alloc, work(alloc, &shared, gate, pass)));
+        return Ok(team_of(alloc, work(alloc, shared, gate, pass)));
     }
     let low = count / 2;
-    let high = count - low;
-    let (pass, other) = board.split(pass);
-    both_halves(rt, alloc, world, board, gate, pass, low, other, high)
+    let (pass, other) = shared.board.split(pass);
+    let one = Workers { pass, count: low };
+    let two = Workers {
+        pass: other,
+        count: count - low,
+    };
+    both_halves(rt, alloc, shared, gate, one, two)
 }
 
 /// Two halves of the workers beside one another.
@@ -56,34 +63,29 @@ pub(crate) fn work_all<R: Threads + Sync, G: Gate + Sync>(
 fn both_halves<R: Threads + Sync, G: Gate + Sync>(
     rt: &R,
     alloc: Global,
-    world: &World,
-    board: &RowBoard,
+    shared: &SharedWorld<'_>,
     gate: &G,
-    pass: Pass,
-    low: u8,
-    other: Pass,
-    high: u8,
+    one: Workers,
+    two: Workers,
 ) -> Result<Team, AllocError>
-    requires some { (0 < low) × (0 < high) }
-    requires pass { IsPassOver world.now board.now pass }
-    requires other { IsPassOver world.now board.now other }
-    requires along { LieAlong world.now (findings_of pass) [] }
-    requires other_along { LieAlong world.now (findings_of other) [] }
-    ensures pass { IfOk result (λ team. IsPassOver world.now board.now team.pass) }
-    ensures lists { IfOk result (λ team. AreWorkLists world.now (findings_of team.pass) (low + high) (team.first.items ∷ team.others.items)) }
+    requires one { AreReady shared.now.world.now shared.now.board.now one }
+    requires two { AreReady shared.now.world.now shared.now.board.now two }
+    ensures pass { IfOk result (λ team. IsPassOver shared.now.world.now shared.now.board.now team.pass) }
+    ensures lists { IfOk result (λ team. AreWorkLists shared.now.world.now (findings_of team.pass) (one.count + two.count) (team.first.items ∷ team.others.items)) }
 {
+    let (world, board) = (shared.world, shared.board);
     let front = move || -> Result<Team, AllocError>
-        requires { IsSync R.row × IsSync G.row × (0 < low) × IsPassOver world.now board.now pass × LieAlong world.now (findings_of pass) [] }
+        requires { IsSync R.row × IsSync G.row × AreReady world.now board.now one }
         ensures pass { IfOk result (λ team. IsPassOver world.entry.now board.entry.now team.pass) }
-        ensures lists { IfOk result (λ team. AreWorkLists world.entry.now (findings_of team.pass) low (team.first.items ∷ team.others.items)) }
-    { work_all(rt, alloc, world, board, gate, pass, low) };
+        ensures lists { IfOk result (λ team. AreWorkLists world.entry.now (findings_of team.pass) one.count (team.first.items ∷ team.others.items)) }
+    { work_all(rt, alloc, &SharedWorld { world, board }, gate, one) };
     let back = move || -> Result<Team, AllocError>
-        requires { IsSync R.row × IsSync G.row × (0 < high) × IsPassOver world.now board.now other × LieAlong world.now (findings_of other) [] }
+        requires { IsSync R.row × IsSync G.row × AreReady world.now board.now two }
         ensures pass { IfOk result (λ team. IsPassOver world.entry.now board.entry.now team.pass) }
-        ensures lists { IfOk result (λ team. AreWorkLists world.entry.now (findings_of team.pass) high (team.first.items ∷ team.others.items)) }
-    { work_all(rt, alloc, world, board, gate, other, high) };
-    let (one, two) = join(rt, front, back);
-    unite(board, one?, two?)
+        ensures lists { IfOk result (λ team. AreWorkLists world.entry.now (findings_of team.pass) two.count (team.first.items ∷ team.others.items)) }
+    { work_all(rt, alloc, &SharedWorld { world, board }, gate, two) };
+    let (first, second) = join(rt, front, back);
+    unite(board, first?, second?)
 }
 
 /// A team of one.

@@ -3,7 +3,7 @@
 ghost use Rattle.std.specs.Prelude.{◌≡◌, ◌+◌, ◌≤◌, ◌<◌, length, IfOk};
 ghost use Rattle.std.specs.Thread.{IsSync};
 ghost use Rattle.qm_solids.specs.InBook.{IsBookOf};
-ghost use Rattle.qm_split.specs.inner.CubeParts.{ArePartsOfCube};
+ghost use Rattle.qm_split.specs.inner.CubeParts.{ArePartsOfCube, AreBrushRuns};
 
 use crate::contender::Part;
 use crate::gathering::brush_in_cube;
@@ -18,6 +18,14 @@ const FEWEST: u64 = 20;
 /// The brushes of a long list are looked at in fewer runs than this.
 const RUNS: u64 = 16;
 
+/// The brushes of a list, with the book of their planes, and how many of them a run has at the least.
+#[derive(Drop)]
+struct BrushRuns<'a> {
+    list: &'a BrushList,
+    book: &'a PlaneBook,
+    fewest: u64,
+}
+
 /// What all brushes of a list are to the cube, in order.
 pub(crate) fn parts_in_cube<R: Threads + Sync>(
     rt: &R,
@@ -29,7 +37,12 @@ pub(crate) fn parts_in_cube<R: Threads + Sync>(
     ensures { IfOk result (λ parts. (0 + length parts.items ≡ length list.now) × ArePartsOfCube book.now list.now 0 parts.items) }
 {
     let count = list.len();
-    parts_of_halves(rt, alloc, list, book, FEWEST + count / RUNS, 0, count)
+    let runs = BrushRuns {
+        list,
+        book,
+        fewest: FEWEST + count / RUNS,
+    };
+    parts_of_halves(rt, alloc, &runs, 0, count)
 }
 
 /// What the brushes of a list from one on, and before another, are to the cube, in order. They are looked at in halves beside one
@@ -38,24 +51,21 @@ pub(crate) fn parts_in_cube<R: Threads + Sync>(
 fn parts_of_halves<R: Threads + Sync>(
     rt: &R,
     alloc: Global,
-    list: &BrushList,
-    book: &PlaneBook,
-    enough: u64,
+    runs: &BrushRuns<'_>,
     from: u64,
     to: u64,
 ) -> Result<Vec<Part>, AllocError>
-    requires filled { IsBookOf book.now list.now }
-    requires some { 0 < enough }
+    requires runs { AreBrushRuns runs.now }
     requires in_order { from ≤ to }
-    requires in_range { to ≤ length list.now }
-    ensures { IfOk result (λ parts. (from + length parts.items ≡ to) × ArePartsOfCube book.now list.now from parts.items) }
+    requires in_range { to ≤ length runs.now.list.now }
+    ensures { IfOk result (λ parts. (from + length parts.items ≡ to) × ArePartsOfCube runs.now.book.now runs.now.list.now from parts.items) }
 {
     let half = (to - from) / 2;
-    if half < enough {
-        return parts_in_turn(alloc, list, book, from, to);
+    if half < runs.fewest {
+        return parts_in_turn(alloc, runs.list, runs.book, from, to);
     }
     let middle = from + half;
-    both_parts(rt, alloc, list, book, enough, from, middle, to)
+    both_parts(rt, alloc, runs, from, middle, to)
 }
 
 /// The same, of two runs of brushes that follow one another, looked at beside one another.
@@ -63,27 +73,24 @@ fn parts_of_halves<R: Threads + Sync>(
 fn both_parts<R: Threads + Sync>(
     rt: &R,
     alloc: Global,
-    list: &BrushList,
-    book: &PlaneBook,
-    enough: u64,
+    runs: &BrushRuns<'_>,
     from: u64,
     middle: u64,
     to: u64,
 ) -> Result<Vec<Part>, AllocError>
-    requires filled { IsBookOf book.now list.now }
-    requires some { 0 < enough }
+    requires runs { AreBrushRuns runs.now }
     requires in_order { (from < middle) × (middle < to) }
-    requires in_range { to ≤ length list.now }
-    ensures { IfOk result (λ parts. (from + length parts.items ≡ to) × ArePartsOfCube book.now list.now from parts.items) }
+    requires in_range { to ≤ length runs.now.list.now }
+    ensures { IfOk result (λ parts. (from + length parts.items ≡ to) × ArePartsOfCube runs.now.book.now runs.now.list.now from parts.items) }
 {
     let first = move || -> Result<Vec<Part>, AllocError>
-        requires { IsSync R.row × IsBookOf book.now list.now × (0 < enough) × (from < middle) × (middle ≤ length list.now) }
-        ensures { IfOk result (λ parts. (from + length parts.items ≡ middle) × ArePartsOfCube book.entry.now list.entry.now from parts.items) }
-    { parts_of_halves(rt, alloc, list, book, enough, from, middle) };
+        requires { IsSync R.row × AreBrushRuns runs.now × (from < middle) × (middle ≤ length runs.now.list.now) }
+        ensures { IfOk result (λ parts. (from + length parts.items ≡ middle) × ArePartsOfCube runs.entry.now.book.now runs.entry.now.list.now from parts.items) }
+    { parts_of_halves(rt, alloc, runs, from, middle) };
     let second = move || -> Result<Vec<Part>, AllocError>
-        requires { IsSync R.row × IsBookOf book.now list.now × (0 < enough) × (middle < to) × (to ≤ length list.now) }
-        ensures { IfOk result (λ parts. (middle + length parts.items ≡ to) × ArePartsOfCube book.entry.now list.entry.now middle parts.items) }
-    { parts_of_halves(rt, alloc, list, book, enough, middle, to) };
+        requires { IsSync R.row × AreBrushRuns runs.now × (middle < to) × (to ≤ length runs.now.list.now) }
+        ensures { IfOk result (λ parts. (middle + length parts.items ≡ to) × ArePartsOfCube runs.entry.now.book.now runs.entry.now.list.now middle parts.items) }
+    { parts_of_halves(rt, alloc, runs, middle, to) };
     let (first, second) = join(rt, first, second);
     let mut parts = first?;
     parts.append(&mut second?)?;

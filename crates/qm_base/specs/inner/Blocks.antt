@@ -1,9 +1,17 @@
 -- The coarse rows of the lanes so far.
 use Rattle.std.specs.Prelude.{◌≡◌, ℕ, List, Bool, Some, length, slice_get}
 use Rattle.qm_contacts.specs.World.{World}
+use Rattle.qm_base.specs.declared.finding.LaneWorld.{LaneWorld}
 use Rattle.qm_base.specs.declared.lane.Lane.{Lane}
+use Rattle.qm_base.specs.inner.Entering.{AreEnteredLeaves}
 use Rattle.qm_base.specs.inner.Following.{IsCoarseRowAt}
+use Rattle.qm_base.specs.inner.Tables.{IsTable}
 use Rattle.qm_base.specs.inner.Ways.{block_of}
+
+-- the table is that of the world, and the leaves are those that its portals enter
+pub record IsLaneWorld (all : LaneWorld) : Type 0 where
+  pub table : IsTable all.world.now.portals all.table.now.lanes.items all.table.now.kinds.items all.table.now.beside.items
+  pub entered : AreEnteredLeaves all.world.now all.entered.now
 
 -- the row of a portal is its coarse row
 pub record HasCoarseRow (world : World) (rows : List (List Bool)) (p : ℕ) : Type 0 where

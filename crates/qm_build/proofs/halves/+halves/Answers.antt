@@ -36,32 +36,32 @@ walk_in_halves-returns g t c = λ solids are.
 
 pub visit_in_halves-returns-in_ok-push-in-Leaf : goal.visit_in_halves-returns-in_ok-push-in-Leaf
 visit_in_halves-returns-in_ok-push-in-Leaf g t c = λ solids are.
-    visited_leaf solids c.args.book.now c.args.fragments c.in-Leaf.leaf _ _ _ _ c.in-Leaf.is (c.in_ok-leaf.ensures solids are) c.in_ok-push-in-Leaf.ensures.items
+    visited_leaf solids c.args.halving.now.book.now c.args.fragments c.in-Leaf.leaf _ _ _ _ c.in-Leaf.is (c.in_ok-leaf.ensures solids are) c.in_ok-push-in-Leaf.ensures.items
 
 pub visit_in_halves-walk_both-requires-clause-front : goal.visit_in_halves-walk_both-requires-clause-front
 visit_in_halves-walk_both-requires-clause-front g t c κs within = (
   c.requires.known.0,
-  front_are c.requires.known.0 c.args.book.now c.args.fragments
-      (sides_of_top c.requires.known.0 c.args.book.now c.args.fragments c.in-Node.number c.in-Node.halves _ c.in-Node.is (c.in_ok-leaf.ensures c.requires.known.0 c.requires.known.1)),
+  front_are c.requires.known.0 c.args.halving.now.book.now c.args.fragments
+      (sides_of_top c.requires.known.0 c.args.halving.now.book.now c.args.fragments c.in-Node.number c.in-Node.halves _ c.in-Node.is (c.in_ok-leaf.ensures c.requires.known.0 c.requires.known.1)),
 )
 
 pub visit_in_halves-walk_both-requires-clause-back : goal.visit_in_halves-walk_both-requires-clause-back
 visit_in_halves-walk_both-requires-clause-back g t c κs within = (
   c.requires.known.0,
-  back_are c.requires.known.0 c.args.book.now c.args.fragments
-      (sides_of_top c.requires.known.0 c.args.book.now c.args.fragments c.in-Node.number c.in-Node.halves _ c.in-Node.is (c.in_ok-leaf.ensures c.requires.known.0 c.requires.known.1)),
+  back_are c.requires.known.0 c.args.halving.now.book.now c.args.fragments
+      (sides_of_top c.requires.known.0 c.args.halving.now.book.now c.args.fragments c.in-Node.number c.in-Node.halves _ c.in-Node.is (c.in_ok-leaf.ensures c.requires.known.0 c.requires.known.1)),
 )
 
 pub visit_in_halves-returns-then-are_large : goal.visit_in_halves-returns-then-are_large
 visit_in_halves-returns-then-are_large g t c = on_ok_weaker c.walk_both.result
     (λ both. λ solids are.
-    let sides = sides_of_top solids c.args.book.now c.args.fragments c.in-Node.number c.in-Node.halves _ c.in-Node.is (c.in_ok-leaf.ensures solids are) in
-    visited_both solids c.args.book.now c.args.fragments c.in-Node.number c.in-Node.halves _ _ _ _ sides c.in_ok-push-in-Node.ensures.items
-    (both solids (front_are solids c.args.book.now c.args.fragments sides) (back_are solids c.args.book.now c.args.fragments sides)))
+    let sides = sides_of_top solids c.args.halving.now.book.now c.args.fragments c.in-Node.number c.in-Node.halves _ c.in-Node.is (c.in_ok-leaf.ensures solids are) in
+    visited_both solids c.args.halving.now.book.now c.args.fragments c.in-Node.number c.in-Node.halves _ _ _ _ sides c.in_ok-push-in-Node.ensures.items
+    (both solids (front_are solids c.args.halving.now.book.now c.args.fragments sides) (back_are solids c.args.halving.now.book.now c.args.fragments sides)))
     c.walk_both.ensures
 
-pub visit_in_halves-returns-else-above-lt-MOST_ABOVE : goal.visit_in_halves-returns-else-above-lt-MOST_ABOVE
-visit_in_halves-returns-else-above-lt-MOST_ABOVE g t c = on_ok_weaker c.wait.result
+pub visit_in_halves-returns-else-halving-lt-MOST_ABOVE : goal.visit_in_halves-returns-else-halving-lt-MOST_ABOVE
+visit_in_halves-returns-else-halving-lt-MOST_ABOVE g t c = on_ok_weaker c.wait.result
     (λ waits. λ solids are.
-    is_node (sides_of_top solids c.args.book.now c.args.fragments c.in-Node.number c.in-Node.halves _ c.in-Node.is (c.in_ok-leaf.ensures solids are)) waits c.in_ok-push-in-Node.ensures.items)
+    is_node (sides_of_top solids c.args.halving.now.book.now c.args.fragments c.in-Node.number c.in-Node.halves _ c.in-Node.is (c.in_ok-leaf.ensures solids are)) waits c.in_ok-push-in-Node.ensures.items)
     c.wait.ensures

@@ -17,10 +17,10 @@ abbrev pub decreases-walk_in_halves : goal.decreases-walk_in_halves
 decreases-walk_in_halves g l = 4 * (7 - l.above) + 3
 
 abbrev pub decreases-visit_in_halves : goal.decreases-visit_in_halves
-decreases-visit_in_halves g l = 4 * (7 - l.above) + 2
+decreases-visit_in_halves g l = 4 * (7 - l.halving.now.above) + 2
 
 abbrev pub decreases-walk_both : goal.decreases-walk_both
-decreases-walk_both g l = 4 * (7 - l.above) + 1
+decreases-walk_both g l = 4 * (7 - l.halving.now.above) + 1
 
 abbrev pub decreases-walk_both-before : goal.decreases-walk_both-before
 decreases-walk_both-before g l = 4 * (7 - l.above)
