@@ -11,7 +11,7 @@ use Rattle.qm_space.specs.Coordinates.{AreCoordinatesBy}
 use Rattle.qm_separators.proofs.WholePointLaws.{whole_by_coordinates, nearest_in_cube, around_in_cube}
 use Rattle.qm_numbers.proofs.Kept.{kept}
 use Rattle.qm_narrow.specs.declared.spot.Spot.{Spot}
-use Rattle.qm_narrow.specs.inner.Trace.{IsSpotOf, IsFixed}
+use Rattle.qm_narrow.specs.inner.Trace.{IsSpotOf, IsFixed, IsFineOf}
 
 -- numbers of the cube that are alike in 32 bits are one
 pub same_coordinate : (a b : ℤ) → IsCoordinate a → IsCoordinate b → of_z w32 a ≡ of_z w32 b → a ≡ b
@@ -25,8 +25,8 @@ three_in_cube (a ∷ b ∷ []) e is = absurd (omega (arith, e))
 three_in_cube (a ∷ b ∷ c ∷ []) e is = All-from_recursion IsCoordinate (a ∷ b ∷ c ∷ []) (is.x, (is.y, (is.z, tt)))
 three_in_cube (a ∷ b ∷ c ∷ d ∷ xs) e is = absurd (omega (arith, e))
 
-pub spot_is : (corner : Point) (spot : Spot) → IsInClosedCube corner → AreCoordinatesBy IsNearest corner spot.nearest → AreCoordinatesBy IsRoundedDown corner spot.below → AreCoordinatesBy IsRoundedUp corner spot.above → length spot.nearest ≡ 3 → length spot.below ≡ 3 → length spot.above ≡ 3 → (spot.loose ≡ false → IsFixed spot) → IsSpotOf corner spot
-spot_is corner spot inside nearest below above n b a fixed =
+pub spot_is : (corner : Point) (spot : Spot) → IsInClosedCube corner → AreCoordinatesBy IsNearest corner spot.nearest → AreCoordinatesBy IsRoundedDown corner spot.below → AreCoordinatesBy IsRoundedUp corner spot.above → length spot.nearest ≡ 3 → length spot.below ≡ 3 → length spot.above ≡ 3 → (spot.loose ≡ false → IsFixed spot) → IsFineOf corner spot.fine → IsSpotOf corner spot
+spot_is corner spot inside nearest below above n b a fixed fine =
     let low = whole_by_coordinates IsRoundedDown corner spot.below below in
     let high = whole_by_coordinates IsRoundedUp corner spot.above above in
     record {
@@ -37,6 +37,7 @@ spot_is corner spot inside nearest below above n b a fixed =
       below_in = three_in_cube spot.below b (around_in_cube corner (whole_point spot.below) inside (record { x = inl low.x; y = inl low.y; z = inl low.z; weight = low.weight }));
       above_in = three_in_cube spot.above a (around_in_cube corner (whole_point spot.above) inside (record { x = inr high.x; y = inr high.y; z = inr high.z; weight = high.weight }));
       fixed = fixed;
+      fine = fine;
     }
 
 -- three coordinates, as the code puts them into one point

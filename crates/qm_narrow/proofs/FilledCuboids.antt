@@ -1,5 +1,5 @@
 -- A winding that has all of its cuboid has corners in front of a plane where the cuboid reaches in front of it.
-use Rattle.std.proofs.Common.{◌≡◌, ℕ, ◌+◌, ◌<◌, ℤ, pos, neg_ℤ, ◌+ℤ◌, ◌*ℤ◌, ◌<ℤ◌, ◌≤ℤ◌, unsigned_abs, length, get_or, List, All, cond, int_lt, refl, ap, sym, ◌∙◌, arith, subst, ⊎_elim}
+use Rattle.std.proofs.Common.{◌≡◌, ℕ, ◌+◌, ◌<◌, ℤ, pos, neg_ℤ, ◌+ℤ◌, ◌*ℤ◌, ◌<ℤ◌, ◌≤ℤ◌, unsigned_abs, length, List, cond, int_lt, refl, ap, sym, ◌∙◌, arith, subst, ⊎_elim}
 use Rattle.std.proofs.lemmas.Int.{ints}
 use Rattle.std.proofs.Math.IntN.{*ℤ_comm}
 use Rattle.std.proofs.lemmas.List.Elements.{All-from_get_or, All-contains}
@@ -9,7 +9,6 @@ use Rattle.qm_numbers.proofs.Signs.{side_test, product_not_negative, times_at_mo
 use Rattle.qm_space.specs.Point.{Point, point_sum, point_times}
 use Rattle.qm_space.specs.Plane.{Plane, value, IsOn, IsInFront}
 use Rattle.qm_space.specs.Cuboid.{Stretch, Cuboid, IsInStretch, IsInCuboid, greatest_product, greatest_value}
-use Rattle.qm_space.proofs.Cuboids.{greatest_value_bound}
 use Rattle.qm_space.proofs.Planes.{value_sum, value_times}
 use Rattle.qm_convex.specs.Winding.{Winding, edge_at, IsConvex, IsInRegion}
 use Rattle.qm_convex.specs.Sides.{HasCornerInFront}

@@ -3,6 +3,8 @@ pub mod Traces
 pub mod Steps
 pub mod FilledCuboids
 pub mod Coordinates
+pub mod FineUnits
+pub mod FineReaches
 pub mod Halves
 pub mod Outlooks
 pub mod Looks

@@ -1,9 +1,10 @@
 -- Worked rows: two doorways one behind the other, and a normal that the look refuses to one side and not to the other, for
 -- which they have a separator.
-use Rattle.std.proofs.Common.{◌≡◌, ℤ, pos, neg_ℤ, true, false, [], ◌∷◌, refl, sym, arith, inl, inr}
+use Rattle.std.proofs.Common.{◌≡◌, ◌≤◌, ℤ, pos, neg_ℤ, ◌*ℤ◌, unsigned_abs, true, false, [], ◌∷◌, refl, sym, arith, inl, inr}
 use Rattle.std.proofs.lemmas.Int.{ints}
 use Rattle.std.proofs.lemmas.List.Elements.{All-from_recursion}
 use Rattle.qm_numbers.specs.Rounding.{IsRoundedDown, IsRoundedUp}
+use Rattle.qm_space.specs.Bounds.{normal_bound}
 use Rattle.qm_space.specs.Point.{IsCoordinate, AreCoordinates}
 use Rattle.qm_space.specs.Meet.{meet}
 use Rattle.qm_space.specs.Determinant.{determinant}
@@ -14,7 +15,7 @@ use Rattle.qm_separators.proofs.DoorwaySamples.{doorway, doorway_convex, spot, n
 use Rattle.qm_geom.specs.declared.vector.Vector.{Vector}
 use Rattle.qm_narrow.specs.declared.reach.Reach.{Reach}
 use Rattle.qm_narrow.specs.declared.spot.Spot.{Spot}
-use Rattle.qm_narrow.specs.inner.Trace.{IsSpotOf}
+use Rattle.qm_narrow.specs.inner.Trace.{IsSpotOf, fine_units}
 use Rattle.qm_narrow.specs.inner.Look.{least_between, least_along, greatest_along, IsReach, IsOutlook, PartsNowhere}
 use Rattle.qm_narrow.proofs.Outlooks.{reach_begins, none_back}
 use Rattle.qm_narrow.proofs.Looks.{outlook_begins, outlook_past}
@@ -22,13 +23,19 @@ use Rattle.qm_narrow.proofs.Looks.{outlook_begins, outlook_past}
 -- ---- whole corners
 
 abbrev whole : ℤ → ℤ → ℤ → Spot
-whole x y z = record { nearest = x ∷ y ∷ z ∷ []; below = x ∷ y ∷ z ∷ []; above = x ∷ y ∷ z ∷ []; loose = false }
+whole x y z = record { nearest = x ∷ y ∷ z ∷ []; below = x ∷ y ∷ z ∷ []; above = x ∷ y ∷ z ∷ []; loose = false; fine = record { x = fine_units *ℤ x; y = fine_units *ℤ y; z = fine_units *ℤ z } }
 
 down : (n : ℤ) → IsRoundedDown n (pos 1) n
 down n = record { at_most = omega (arith, ints); next = omega (arith, ints) }
 
 up : (n : ℤ) → IsRoundedUp n (pos 1) n
 up n = record { at_least = omega (arith, ints); previous = omega (arith, ints) }
+
+in_fine : (n : ℤ) → IsRoundedDown (fine_units *ℤ n) (pos 1) (fine_units *ℤ n)
+in_fine n = record { at_most = omega (arith, ints); next = omega (arith, ints) }
+
+fine_in : (n : ℤ) → IsCoordinate n → unsigned_abs (fine_units *ℤ n) ≤ normal_bound
+fine_in n is = let l = is.low in let h = is.high in omega (arith, ints)
 
 whole_is : (x y z : ℤ) → IsCoordinate x → IsCoordinate y → IsCoordinate z → IsSpotOf (spot x y z) (whole x y z)
 whole_is x y z a b c =
@@ -42,6 +49,7 @@ whole_is x y z a b c =
       below_in = inside;
       above_in = inside;
       fixed = λ _. record { x = refl; y = refl; z = refl };
+      fine = record { of_x = in_fine x; of_y = in_fine y; of_z = in_fine z; small = record { x_small = fine_in x a; y_small = fine_in y b; z_small = fine_in z c } };
     }
 
 coordinate_0 : IsCoordinate (pos 0)

@@ -12,9 +12,10 @@ use Rattle.qm_space.specs.Meet.{HasMeetSizes}
 use Rattle.qm_space.specs.Coordinates.{HasSmallCoordinates}
 use Rattle.qm_numbers.proofs.Kept.{kept}
 use Rattle.qm_geom.specs.inner.SmallCoordinate.{IsSmallCoordinate}
+use Rattle.qm_geom.specs.declared.vector.Vector.{Vector}
 use Rattle.qm_narrow.specs.declared.near.Near.{Near}
 use Rattle.qm_narrow.specs.inner.Near.{AreNear}
-use Rattle.qm_narrow.specs.inner.Trace.{IsSpotOf}
+use Rattle.qm_narrow.specs.inner.Trace.{IsSpotOf, IsFineOf}
 use Rattle.qm_narrow.proofs.Coordinates.{spot_is}
 
 -- ---- distances from a multiple m of the denominator u
@@ -183,14 +184,15 @@ module _ (corner : Point) (inside : IsInClosedCube corner) (small : HasSmallCoor
   z_small : IsSmallCoordinate corner.z corner.w
   z_small = record { positive = inside.weight; small = small.z_small; over_size = sizes.z_small; under_size = sizes.w_small }
 
-  pub spot_by : IsSpotOf corner (record {
+  pub spot_by : (fine : Vector) → IsFineOf corner fine → IsSpotOf corner (record {
     nearest = kept w32 near_x.nearest ∷ kept w32 near_y.nearest ∷ kept w32 near_z.nearest ∷ [];
     below = kept w32 near_x.below ∷ kept w32 near_y.below ∷ kept w32 near_z.below ∷ [];
     above = kept w32 near_x.above ∷ kept w32 near_y.above ∷ kept w32 near_z.above ∷ [];
     loose = true;
+    fine = fine;
   })
-  spot_by = spot_is corner _ inside
+  spot_by fine fine_is = spot_is corner _ inside
       (record { of_x = nearest_is corner.x corner.w x w x_small near_x x_is w_is x_near; of_y = nearest_is corner.y corner.w y w y_small near_y y_is w_is y_near; of_z = nearest_is corner.z corner.w z w z_small near_z z_is w_is z_near })
       (record { of_x = below_is corner.x corner.w x w x_small near_x x_is w_is x_near; of_y = below_is corner.y corner.w y w y_small near_y y_is w_is y_near; of_z = below_is corner.z corner.w z w z_small near_z z_is w_is z_near })
       (record { of_x = above_is corner.x corner.w x w x_small near_x x_is w_is x_near; of_y = above_is corner.y corner.w y w y_small near_y y_is w_is y_near; of_z = above_is corner.z corner.w z w z_small near_z z_is w_is z_near })
-      refl refl refl (λ e. let never : true ≡ false = e in cc)
+      refl refl refl (λ e. let never : true ≡ false = e in cc) fine_is

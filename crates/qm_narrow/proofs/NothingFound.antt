@@ -23,4 +23,4 @@ module _ (s p : Winding) (below above from to : Point) (outlook : Outlook) (told
   unfolding outward_plane across
   gains_nothing not_ahead not_back = gains_there (SeparatesByMix s p below above from to) planes (λ h by.
       let is = told by.0 by.1 in
-      ((gains_nowhere s p by.0 from to (across by.0) refl planes planes refl found outlook outlook (is.ahead (across by.0) refl) (is.back (across by.0) refl) inl inl not_ahead not_back).members h).1 (inr by.2))
+      ((gains_nowhere s p by.0 from to (across by.0) refl planes planes refl found outlook (λ not. inl (is.ahead (across by.0) refl not)) (λ not. inl (is.back (across by.0) refl not)) not_ahead not_back).members h).1 (inr by.2))

@@ -223,18 +223,18 @@ turned_alike g h e = same_point (normal_of g) (normal_of h) (back g.nx h.nx (ap 
     back a b e = omega (arith, linear)
 
 -- where the look and the list leave a side out, what parts them on this side is listed
-module _ (s p : Winding) (at from to : Point) (n : Vector) (through : direction_of n ≡ normal_of (outward_plane at from to)) (planes listed : List Plane) (same : listed ≡ planes) (found : AreAtLeastDistance s planes) (look outlook : Outlook) (look_ahead : look.ahead ≡ false → PartsNowhere s p n) (look_back : look.back ≡ false → PartsNowhere p s n) (ahead : outlook.ahead ≡ false → (look.ahead ≡ false) ⊎ HasAlongAmong listed n) (back : outlook.back ≡ false → (look.back ≡ false) ⊎ HasAgainstAmong listed n) where
+module _ (s p : Winding) (at from to : Point) (n : Vector) (through : direction_of n ≡ normal_of (outward_plane at from to)) (planes listed : List Plane) (same : listed ≡ planes) (found : AreAtLeastDistance s planes) (outlook : Outlook) (ahead : outlook.ahead ≡ false → PartsNowhere s p n ⊎ HasAlongAmong listed n) (back : outlook.back ≡ false → PartsNowhere p s n ⊎ HasAgainstAmong listed n) where
   module _ (h : Plane) (lowest : HasLowestNormal h) (parts : PartsAlong s p h h) (k : ℤ) (multiple : direction_of n ≡ point_times k (normal_of h)) where
     there_ahead : pos 0 <ℤ k → outlook.ahead ≡ false → Contains planes h
     there_ahead positive not = ⊎_elim
-        (λ no. absurd (none_ahead n h k multiple s p (none_along s p h h parts) parts.parts.in_front positive (look_ahead no)))
+        (λ nowhere. absurd (none_ahead n h k multiple s p (none_along s p h h parts) parts.parts.in_front positive nowhere))
         (λ among. let there = subst (λ (l : List Plane). Contains l among.0) same among.1 in
         listed_along s p h among.0 h planes found there (same_normal n among.0 (found.lowest among.0 there) among.2 at from to through h lowest k positive multiple) parts)
         (ahead not)
 
     there_back : k <ℤ pos 0 → outlook.back ≡ false → Contains planes h
     there_back negative not = ⊎_elim
-        (λ no. absurd (none_back n h k multiple s p (none_along s p h h parts) parts.parts.in_front negative (look_back no)))
+        (λ nowhere. absurd (none_back n h k multiple s p (none_along s p h h parts) parts.parts.in_front negative nowhere))
         (λ among. let there = subst (λ (l : List Plane). Contains l among.0) same among.1 in
         listed_along s p h among.0 h planes found there
         (turned_alike h among.0 (same_normal n (flipped among.0) (flipped_lowest_normal among.0 (found.lowest among.0 there)) among.2 at from to through (flipped h) (flipped_lowest_normal h lowest) (neg_ℤ k) (omega (arith, linear)) (multiple ∙ times_back k h)))

@@ -2,11 +2,13 @@
 use Rattle.std.proofs.Common.{◌≡◌, false, refl, ℤ, pos, ◌-ℤ◌, ◌*ℤ◌, List, length, slice_index_or, subst, sym, arith, unsigned_abs}
 use Rattle.std.proofs.lemmas.Int.{ints}
 use Rattle.qm_numbers.specs.Rounding.{IsRoundedDown, IsRoundedUp, IsNearest}
-use Rattle.qm_space.specs.Point.{Point}
+use Rattle.qm_space.specs.Point.{Point, AreCoordinates, whole_point}
 use Rattle.qm_space.specs.Cube.{IsInClosedCube}
 use Rattle.qm_space.specs.Coordinates.{AreCoordinatesBy}
-use Rattle.qm_narrow.specs.inner.Trace.{IsSpotOf, IsWholeAt}
-use Rattle.qm_narrow.proofs.Coordinates.{spot_is}
+use Rattle.qm_narrow.specs.inner.Trace.{IsSpotOf, IsWholeAt, IsFineOf}
+use Rattle.qm_separators.proofs.WholePointLaws.{whole_by_coordinates, nearest_in_cube}
+use Rattle.qm_geom.specs.declared.vector.Vector.{Vector}
+use Rattle.qm_narrow.proofs.Coordinates.{spot_is, three_in_cube}
 
 -- ---- a whole number, rounded
 
@@ -32,7 +34,10 @@ coordinates_by Rule itself corner at is = record {
   of_z = by_itself Rule itself corner.z corner.w (slice_index_or at 2 (pos 0)) is.weight is.z;
 }
 
-pub whole_spot : (corner : Point) (at : List ℤ) → IsInClosedCube corner → length at ≡ 3 → IsWholeAt corner at → IsSpotOf corner (record { nearest = at; below = at; above = at; loose = false })
-whole_spot corner at inside n is =
-    spot_is corner (record { nearest = at; below = at; above = at; loose = false }) inside
-    (coordinates_by IsNearest nearest_itself corner at is) (coordinates_by IsRoundedDown down_itself corner at is) (coordinates_by IsRoundedUp up_itself corner at is) n n n (λ _. record { x = refl; y = refl; z = refl })
+pub whole_in : (corner : Point) (at : List ℤ) → IsInClosedCube corner → length at ≡ 3 → IsWholeAt corner at → AreCoordinates at
+whole_in corner at inside n is = three_in_cube at n (nearest_in_cube corner (whole_point at) inside (whole_by_coordinates IsNearest corner at (coordinates_by IsNearest nearest_itself corner at is)))
+
+pub whole_spot : (corner : Point) (at : List ℤ) (fine : Vector) → IsInClosedCube corner → length at ≡ 3 → IsWholeAt corner at → IsFineOf corner fine → IsSpotOf corner (record { nearest = at; below = at; above = at; loose = false; fine = fine })
+whole_spot corner at fine inside n is fine_is =
+    spot_is corner (record { nearest = at; below = at; above = at; loose = false; fine = fine }) inside
+    (coordinates_by IsNearest nearest_itself corner at is) (coordinates_by IsRoundedDown down_itself corner at is) (coordinates_by IsRoundedUp up_itself corner at is) n n n (λ _. record { x = refl; y = refl; z = refl }) fine_is

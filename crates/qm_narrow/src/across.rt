@@ -43,12 +43,19 @@ pub(crate) fn gain_through(
     if outlook.is_none() {
         return Ok(());
     }
+    let told = outlook.past(
+        &pair.source.fine_reach(&normal),
+        &pair.pass.fine_reach(&normal),
+    );
+    if told.is_none() {
+        return Ok(());
+    }
     match lowest(&normal) {
         None => Ok(()),
         Some(plane) => {
             let turned = plane.flipped();
-            gain_where(planes, pair, &plane, outlook.ahead)?;
-            gain_where(planes, pair, &turned, outlook.back)?;
+            gain_where(planes, pair, &plane, told.ahead)?;
+            gain_where(planes, pair, &turned, told.back)?;
             Ok(())
         }
     }

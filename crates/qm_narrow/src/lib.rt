@@ -12,6 +12,7 @@ mod corner_lists;
 mod crossing;
 mod divisor;
 mod edge;
+mod fine;
 pub mod laws;
 mod lowest;
 mod multiples;

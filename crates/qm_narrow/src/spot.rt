@@ -10,25 +10,31 @@ ghost use Rattle.qm_geom.specs.Vectors.{HasSmallComponents};
 ghost use Rattle.qm_narrow.specs.inner.Look.{look_product_bound, look_bound, least_between};
 ghost use Rattle.qm_narrow.specs.inner.Trace.{IsSpotOf};
 
+use crate::fine::{fine_at, fine_of};
 use crate::near::Near;
 use crate::normal::sum;
+use crate::reach::Reach;
+use crate::sizes::dot;
 use crate::whole::whole_corner;
 use qm_geom::{Corner, Cuboid, Stretch, Vector};
 
 /// The whole points near a corner: the nearest one, and the coordinates rounded down and up. Where it is not loose, the corner
-/// is a whole point, and these are that one.
+/// is a whole point, and these are that one. Beside them stand its coordinates in fine units.
 #[derive(Clone, Copy)]
 pub(crate) struct Spot {
     pub(crate) nearest: [i32; 3],
     pub(crate) below: [i32; 3],
     pub(crate) above: [i32; 3],
     pub(crate) loose: bool,
+    pub(crate) fine: Vector,
 }
 
 impl Spot {
     ghost use Rattle.qm_narrow.specs.inner.Trace.{IsSpotOf};
     ghost use Rattle.qm_geom.specs.Vectors.{HasSmallComponents};
+    ghost use Rattle.qm_geom.specs.Vectors.{dot};
     ghost use Rattle.qm_narrow.specs.inner.Look.{least_along, greatest_along};
+    ghost use Rattle.qm_narrow.specs.inner.Turn.{LiesAround, size_bound};
 
     /// Those of a corner.
     pub(crate) fn of(corner: &Corner) -> Spot
@@ -42,6 +48,7 @@ impl Spot {
                 below: at,
                 above: at,
                 loose: false,
+                fine: fine_at(&at),
             };
         }
         divided(corner)
@@ -96,6 +103,16 @@ impl Spot {
         }
         least
     }
+
+    /// What a normal has along the corner, in fine units, with so much slack to both sides.
+    pub(crate) fn fine_reach(&self, normal: &Vector, slack: i64) -> Reach
+        requires spot { (p : Point) × IsSpotOf p self.now }
+        requires small { HasSmallComponents normal.now whole_normal_bound }
+        requires slack_small { unsigned_abs slack ≤ size_bound }
+        ensures { LiesAround (dot normal.now self.now.fine) slack result }
+    {
+        Reach::around(dot(normal, &self.fine), slack)
+    }
 }
 
 /// Those of a corner, by a division for each coordinate.
@@ -115,6 +132,7 @@ fn divided(corner: &Corner) -> Spot
         below: [near_x.below, near_y.below, near_z.below],
         above: [near_x.above, near_y.above, near_z.above],
         loose: true,
+        fine: fine_of(corner),
     }
 }
 

@@ -12,6 +12,7 @@ ghost use Rattle.qm_narrow.specs.inner.Trace.{IsSpotOf, IsTrace};
 
 use crate::corner_lists::CornerLists;
 use crate::reach::Reach;
+use crate::sizes::size_of;
 use crate::spot::Spot;
 use qm_geom::{Corner, Plane, Vector, least_distance};
 use qm_wind::Winding;
@@ -40,7 +41,7 @@ impl Model for Traced {
 impl Traced {
     ghost use Rattle.qm_narrow.specs.inner.Trace.{IsSpotOf};
     ghost use Rattle.qm_geom.specs.Vectors.{HasSmallComponents};
-    ghost use Rattle.qm_narrow.specs.inner.Look.{IsReach};
+    ghost use Rattle.qm_narrow.specs.inner.Look.{IsReach, IsFineReach};
 
     /// A winding with these, in lists that are used again.
     pub(crate) fn of(lists: CornerLists, winding: Winding) -> Result<Traced, AllocError>
@@ -162,6 +163,20 @@ impl Traced {
         let mut reach = Reach::of(self.spot(0), normal);
         for spot in &self.lists.spots {
             reach = reach.with(spot, normal);
+        }
+        reach
+    }
+
+    /// Its reach along a normal, in fine units.
+    pub(crate) fn fine_reach(&self, normal: &Vector) -> Reach
+        requires { HasSmallComponents normal.now whole_normal_bound }
+        ensures { IsFineReach self.now normal.now result }
+    {
+        let _corners = self.len();
+        let slack = size_of(normal);
+        let mut reach = self.spot(0).fine_reach(normal, slack);
+        for spot in &self.lists.spots {
+            reach = reach.and(&spot.fine_reach(normal, slack));
         }
         reach
     }

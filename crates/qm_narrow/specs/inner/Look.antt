@@ -1,4 +1,4 @@
-use Rattle.std.specs.Prelude.{◌≡◌, false, ◌*◌, List, ℤ, pos, ◌+ℤ◌, ◌≤ℤ◌, ℕ, slice_index_or}
+use Rattle.std.specs.Prelude.{◌≡◌, false, ◌*◌, List, ℤ, pos, ◌+ℤ◌, ◌*ℤ◌, ◌≤ℤ◌, ℕ, slice_index_or}
 use Rattle.qm_space.specs.Bounds.{world_extent, whole_normal_bound}
 use Rattle.qm_space.specs.Plane.{Plane}
 use Rattle.qm_space.specs.Cuboid.{Stretch, least_product, greatest_product}
@@ -8,6 +8,7 @@ use Rattle.qm_geom.specs.declared.vector.Vector.{Vector}
 use Rattle.qm_narrow.specs.declared.reach.Reach.{Reach}
 use Rattle.qm_narrow.specs.declared.outlook.Outlook.{Outlook}
 use Rattle.qm_narrow.specs.declared.spot.Spot.{Spot}
+use Rattle.qm_narrow.specs.inner.Trace.{fine_units}
 
 -- A look at a normal before it is brought to lowest terms: whether planes with it can part two windings at all, as far as
 -- whole points near their corners tell.
@@ -48,6 +49,11 @@ greatest_along n spot = (greatest_product n.x (stretch_of spot 0) +ℤ greatest_
 pub record IsReach (v : Winding) (n : Vector) (reach : Reach) : Type 0 where
   pub low : (d : ℤ) → HasNoCornerInFront v (at_distance n d) → reach.low ≤ℤ d
   pub high : (d : ℤ) → HasNoCornerBehind v (at_distance n d) → d ≤ℤ reach.high
+
+-- the same in fine units
+pub record IsFineReach (v : Winding) (n : Vector) (reach : Reach) : Type 0 where
+  pub low : (d : ℤ) → HasNoCornerInFront v (at_distance n d) → reach.low ≤ℤ (fine_units *ℤ d)
+  pub high : (d : ℤ) → HasNoCornerBehind v (at_distance n d) → (fine_units *ℤ d) ≤ℤ reach.high
 
 -- no plane with the normal has no corner of the one winding in front and none of the other behind
 abbrev pub PartsNowhere : Winding → Winding → Vector → Type 0
